@@ -1,0 +1,1 @@
+// Paths against patterns.

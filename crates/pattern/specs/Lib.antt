@@ -1,0 +1,5 @@
+pub mod Pieces
+pub mod Items
+pub mod Expansions
+pub mod Faults
+pub mod Codes

@@ -1,0 +1,1 @@
+// The form of patterns and values, and their expansions.

@@ -1,0 +1,130 @@
+-- The assignments in front of the profiles.
+use Prim.Native.Nat.{ℕ, zero, suc, _+_, _-_}
+use Prim.Native.Char.{code}
+use mathlib.Core.List.{List, [], _∷_}
+use mathlib.Core.Bool.{Bool, true, false, not, _||_}
+use lib.ListN.{length, take, drop}
+use lib.Dec.{eqb, leb}
+use Rattle.scan.specs.Bytes.{begins, bytes, isEmpty, run, same, if_then_else_}
+use Rattle.text.specs.Reading.{Reading, Read, Refused, _>>=_, refuseIf, judged}
+use Rattle.text.specs.Tokens.{hash, inLine, noStop, nul, blank, quote, standing, standsAt, tokenAt, wanted}
+use Rattle.pattern.specs.Expansions.{Variable, isSet}
+use Rattle.pattern.specs.Faults.{valueFault}
+use Rattle.preamble.specs.Variables.{Assignment, variableForm, valuesOf, setBefore, assigned}
+
+-- ---- values, "up to the line's end"
+
+pub record Values : Type 0 where
+  pub values : List (List ℕ)
+  pub next : ℕ
+
+-- the place of what stands next in the line
+abbrev pub inLineAt : List ℕ → ℕ → ℕ
+inLineAt s at = at + run inLine (drop at s)
+
+-- no value stands there: the line or the text ends, a comment begins, or a NUL stands there
+abbrev pub lineEnds : List ℕ → Bool
+lineEnds [] = true
+lineEnds (b ∷ s) = eqb b (code "\n") || eqb b hash || eqb b nul
+
+-- the values from a place on, where so many more are allowed; they use the variables vs
+unfoldable pub valuesAt : (left : ℕ) → List Variable → List ℕ → ℕ → Reading Values
+valuesAt zero vs s at =
+    elim (lineEnds (drop (inLineAt s at) s)) [
+      | true ↦ Read (record { values = []; next = inLineAt s at })
+      | false ↦ do
+        t ← wanted s (tokenAt noStop s (inLineAt s at))
+        _ ← refuseIf (isEmpty (t .content)) 4 (t .start)
+        Refused 9 (t .start)
+    ]
+valuesAt (suc left) vs s at =
+    elim (lineEnds (drop (inLineAt s at) s)) [
+      | true ↦ Read (record { values = []; next = inLineAt s at })
+      | false ↦ do
+        t ← wanted s (tokenAt noStop s (inLineAt s at))
+        _ ← judged (valueFault vs (t .content)) (t .start)
+        more ← valuesAt left vs s (t .next)
+        Read (record { values = t .content ∷ more .values; next = more .next })
+    ]
+
+-- ---- names and operators
+
+-- "Outside profiles @{ starts an assignment; its name runs to the next }, and a blank, #, NUL or the end before that is 4 at the @{":
+-- the name, where s follows the @{
+unfoldable pub named : List ℕ → List ℕ
+named s = take (run (λ b. not (blank b || eqb b hash || eqb b nul || eqb b quote || eqb b (code "}"))) s) s
+
+pub record Operator : Type 0 where
+  pub adds : Bool
+  pub next : ℕ
+
+-- "then = or +=, blanks but LF free around it"; anything else is 4 at the token there
+unfoldable pub operatorFrom : List ℕ → ℕ → ℕ → Reading Operator
+operatorFrom s at p =
+    elim (begins (code "=") (drop p s)) [
+      | true ↦ Read (record { adds = false; next = p + 1 })
+      | false ↦ elim (same (take 2 (drop p s)) (bytes "+=")) [
+        | true ↦ Read (record { adds = true; next = p + 2 })
+        | false ↦ do
+          t ← wanted s (tokenAt noStop s at)
+          Refused 4 (t .start)
+      ]
+    ]
+
+-- "= on a set name and += on an unset one, both at the name: 6"; "one variable too many is 9 at its name"
+abbrev pub nameFault : List Variable → (adds : Bool) → List ℕ → ℕ
+nameFault vs adds n =
+    if adds then (if isSet vs n then 0 else 6)
+    else if isSet vs n then 6
+    else if leb 32 (length vs) then 9
+    else 0
+
+-- "A value may use only names first set earlier than the name it is given to"
+abbrev pub usable : List Variable → (adds : Bool) → List ℕ → List Variable
+usable vs adds n = if adds then setBefore vs n else vs
+
+pub record Assigned : Type 0 where
+  pub assignment : Assignment
+  pub next : ℕ
+
+-- the assignment that starts with the @{ at p
+unfoldable pub assignmentFrom : List Variable → List ℕ → ℕ → Reading Assigned
+assignmentFrom vs s p =
+    let n : List ℕ = named (drop (p + 2) s) in
+    let name : ℕ = p + 2 in
+    let after : ℕ = name + length n + 1 in
+    let sign : ℕ = inLineAt s after in
+    do
+      _ ← refuseIf (not (begins (code "}") (drop (name + length n) s))) 4 p
+      _ ← refuseIf (not (variableForm n)) 6 name
+      op ← operatorFrom s after sign
+      _ ← judged (nameFault vs (op .adds) n) name
+      vals ← valuesAt (16 - length (valuesOf vs n)) (usable vs (op .adds) n) s (op .next)
+      _ ← refuseIf (eqb (length (vals .values)) 0) 4 sign
+      Read (record { assignment = record { name = n; adds = op .adds; values = vals .values }; next = vals .next })
+
+-- ---- the preamble
+
+pub record Preamble : Type 0 where
+  pub assignments : List Assignment
+  pub variables : List Variable
+  pub next : ℕ
+
+-- the assignments from a place on, where so many more are allowed. Each gives a value or more, so 32 variables of 16 values
+-- leave room for 512, and no text is refused for one assignment too many.
+unfoldable pub preambleAt : (left : ℕ) → List Variable → List ℕ → ℕ → Reading Preamble
+preambleAt zero vs s at =
+    elim (standsAt (bytes "@{") s at) [
+      | true ↦ do
+        a ← assignmentFrom vs s (standing s at)
+        Refused 9 (standing s at)
+      | false ↦ Read (record { assignments = []; variables = vs; next = at })
+    ]
+preambleAt (suc left) vs s at =
+    elim (standsAt (bytes "@{") s at) [
+      | true ↦ do
+        a ← assignmentFrom vs s (standing s at)
+        more ← preambleAt left (assigned vs (a .assignment)) s (a .next)
+        Read (record { assignments = a .assignment ∷ more .assignments; variables = more .variables; next = more .next })
+      | false ↦ Read (record { assignments = []; variables = vs; next = at })
+    ]
