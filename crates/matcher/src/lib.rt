@@ -1,1 +1,206 @@
 // Paths against patterns.
+ghost use mathlib.Core.Path.{_≡_};
+ghost use mathlib.Core.Bool.{false, _&&_};
+ghost use mathlib.Core.List.{List, map};
+ghost use Prim.Native.Nat.{ℕ, _+_, _-_, _≤_, min};
+ghost use lib.ListN.{length, getD, take, drop};
+ghost use Rattle.scan.specs.Bytes.{every, run, if_then_else_};
+ghost use Rattle.pattern.specs.Codes.{bracketed, decode, notClose};
+ghost use Rattle.matcher.specs.Match.{isLiteral, matches, someUpTo};
+ghost use Rattle.matcher.specs.Walk.{Joins, after, markOf, pathFits, repeatsOf, takesOf};
+
+// The codes of pieces: a literal is its byte; then ?, * and **; a class is the place in the text of its first byte above CLASS.
+const ONE: u32 = 256;
+
+const STAR: u32 = 257;
+
+const STAR_STAR: u32 = 258;
+
+const CLASS: u32 = 65536;
+
+const SLASH: u32 = 47;
+
+// Which places of the path are alive, and whether any is.
+struct Marks {
+    places: [bool; 4096],
+    alive: bool,
+}
+
+// The lower of two numbers.
+fn lower(a: usize, b: usize) -> usize
+    ensures { λ r. ⌜ r ≡ min a b ⌝ }
+{
+    if a <= b { a } else { b }
+}
+
+// The place in the text that the code of a class tells.
+fn place(code: u32) -> usize
+    ensures { λ r. ⌜ r ≡ code - 65536 ⌝ }
+{
+    if code < CLASS {
+        return 0;
+    }
+    (code - CLASS) as usize
+}
+
+// Where the next ] stands, or the text ends.
+fn class_end(text: &[u8], at: usize) -> usize
+    ensures { λ r. ⌜ r ≡ at + run notClose (drop at (now (text .entry))) ⌝ }
+{
+    let mut i = at;
+    while i < text.len() {
+        if text[i] == b']' {
+            return i;
+        }
+        i += 1;
+    }
+    i
+}
+
+// The bytes in the brackets of a class.
+fn class_bytes(text: &[u8], at: usize) -> &[u8]
+    ensures { λ r. ⌜ now r ≡ bracketed (now (text .entry)) at ⌝ }
+{
+    if at <= text.len() {
+        let end = class_end(text, at);
+        return &text[at..end];
+    }
+    &text[0..0]
+}
+
+// Whether a byte is of the kind that a piece takes.
+fn takes(text: &[u8], code: u32, b: u8) -> bool
+    ensures { λ r. ⌜ r ≡ takesOf (decode (now (text .entry)) code) b ⌝ }
+{
+    if code < ONE {
+        return b as u32 == code;
+    }
+    if code == STAR_STAR {
+        return true;
+    }
+    if code <= STAR {
+        return b != b'/';
+    }
+    let at = place(code);
+    class::in_class(class_bytes(text, at), b)
+}
+
+// Whether a piece takes any number of bytes, and not one.
+fn repeats(code: u32) -> bool
+    ensures { λ r. ⌜ ((text : List ℕ) → r ≡ repeatsOf (decode text code)) ⌝ }
+{
+    (code == STAR) | (code == STAR_STAR)
+}
+
+// The mark of a place after a piece.
+fn mark(many: bool, before: bool, here: bool, carried: bool, ok: bool) -> bool
+    ensures { λ r. ⌜ r ≡ markOf many before here carried ok ⌝ }
+{
+    if many {
+        carried & ok | here
+    } else {
+        before & ok
+    }
+}
+
+// The places alive after a piece.
+fn step(marks: [bool; 4096], text: &[u8], code: u32, path: &[u8]) -> Marks
+    requires { ⌜ length (now path) ≤ 4095 ⌝ }
+    ensures { λ r. ⌜ ((i : ℕ) → i ≤ length (now (path .entry)) → getD (r .places) i false ≡ after (decode (now (text .entry)) code) (now (path .entry)) marks i) ⌝ }
+    ensures { λ r. ⌜ r .alive ≡ someUpTo (after (decode (now (text .entry)) code) (now (path .entry)) marks) (length (now (path .entry))) ⌝ }
+{
+    let many = repeats(code);
+    let mut next = [false; 4096];
+    let mut alive = mark(many, false, marks[0], false, false);
+    next[0] = alive;
+    let mut i = 0;
+    while i < path.len() {
+        let ok = takes(text, code, path[i]);
+        let before = marks[i];
+        let here = marks[i + 1];
+        let m = mark(many, before, here, next[i], ok);
+        next[i + 1] = m;
+        alive = alive | m;
+        i += 1;
+    }
+    Marks {
+        places: next,
+        alive,
+    }
+}
+
+// Whether all the pieces match the path.
+fn walk(text: &[u8], codes: &[u32], path: &[u8]) -> bool
+    requires { ⌜ length (now path) ≤ 4095 ⌝ }
+    ensures { λ r. ⌜ r ≡ matches (map (decode (now (text .entry))) (now (codes .entry))) (now (path .entry)) ⌝ }
+{
+    let mut marks = [false; 4096];
+    marks[0] = true;
+    let mut k = 0;
+    while k < codes.len() {
+        let s = step(marks, text, codes[k], path);
+        if s.alive {
+            marks = s.places;
+            k += 1;
+        } else {
+            return false;
+        }
+    }
+    let n = path.len();
+    marks[n]
+}
+
+// Whether the first pieces, as many as counted, match a path of at most 4,095 bytes.
+pub fn matched(text: &[u8], codes: &[u32], count: usize, path: &[u8]) -> bool
+    ensures { λ r. ⌜ r ≡ (pathFits (now (path .entry)) && matches (map (decode (now (text .entry))) (take count (now (codes .entry)))) (now (path .entry))) ⌝ }
+{
+    if path.len() <= 4095 {
+        if count <= codes.len() {
+            return walk(text, &codes[..count], path);
+        }
+        return walk(text, codes, path);
+    }
+    false
+}
+
+// How many places a code takes that is left out, or kept.
+fn kept(out: bool) -> usize
+    ensures { λ r. ⌜ r ≡ (if out then 0 else 1) ⌝ }
+{
+    if out { 0 } else { 1 }
+}
+
+// Of the first pieces, as many as counted, neighbouring literal slashes become one; how many pieces are left.
+pub fn join_slashes(codes: &mut [u32], count: usize) -> usize
+    ensures { λ r. ⌜ Joins count (now (codes .entry)) (now (codes .exit)) r ⌝ }
+{
+    let n = lower(count, codes.len());
+    let mut slash = false;
+    let mut at = 0;
+    let mut i = 0;
+    while i < n {
+        let c = codes[i];
+        let here = c == SLASH;
+        codes[at] = c;
+        at += kept(slash & here);
+        slash = here;
+        i += 1;
+    }
+    at
+}
+
+// Whether the first pieces, as many as counted, are literals only.
+pub fn is_literal(codes: &[u32], count: usize) -> bool
+    ensures { λ r. ⌜ ((text : List ℕ) → r ≡ every isLiteral (map (decode text) (take count (now (codes .entry))))) ⌝ }
+{
+    let end = lower(count, codes.len());
+    let mut seen = 0;
+    while seen < end {
+        if codes[seen] < ONE {
+            seen += 1;
+        } else {
+            return false;
+        }
+    }
+    true
+}

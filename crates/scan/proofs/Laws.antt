@@ -1,16 +1,16 @@
 -- What the definitions of bytes say at a place of a text.
-use Prim.Native.Nat.{ℕ, zero, suc, _+_, _≤_, _<_}
+use Prim.Native.Nat.{ℕ, zero, suc, _+_, _≤_, _<_, _-_, min}
 use mathlib.Core.Path.{_≡_, refl, ap, ap₂, sym, _∙_}
 use mathlib.Core.List.{List, [], _∷_, _++_}
 use mathlib.Core.Bool.{Bool, true, false, _&&_, _||_, or-assoc, false≢true}
-use lib.ListN.{length, getD, take, drop, drop-of-length-le, length-drop}
-use lib.Seq.{drop-cons, take-nil}
+use lib.ListN.{length, getD, take, drop, drop-of-length-le, length-drop, length-take}
+use lib.Seq.{drop-cons, take-nil, drop-drop, take-take}
 use lib.Dec.{eqb, eqb·zero-suc, eqb·suc-suc}
-use native.Mathlib.Nat.{zero-add, suc-add}
+use native.Mathlib.Nat.{zero-add, suc-add, not-suc-le-zero, le-of-suc-le-suc}
 use native.Mathlib.Numerals.{add-one}
 use native.Mathlib.Omega.{arith}
 use borrow.Author.Tests.{eq-eqb, ne-eqb, eqb-true, eqb-false}
-use Rattle.scan.specs.Bytes.{same, holds, some, every, run}
+use Rattle.scan.specs.Bytes.{same, holds, some, every, run, span}
 
 -- the same bytes from a place on: one byte more, a byte that differs, the end
 module _ (s t : List ℕ) (i : ℕ) where
@@ -123,3 +123,47 @@ pub some-append : {A : Type 0} (p : A → Bool) (xs ys : List A) → some p (xs 
 unfolding some
 some-append p [] ys = refl
 some-append p (x ∷ xs) ys = ap (λ (b : Bool). p x || b) (some-append p xs ys) ∙ sym (or-assoc (p x) (some p xs) (some p ys))
+
+-- a run that ends inside the first m bytes is the same run in all of them
+pub run-take : (p : ℕ → Bool) (m : ℕ) (l : List ℕ) → run p (take m l) < length (take m l) → run p l ≡ run p (take m l)
+unfolding run
+run-take p zero l h = absurd (not-suc-le-zero h)
+run-take p (suc m) [] h = refl
+run-take p (suc m) (b ∷ l) h = go (p b) (λ k. run-take p m l k) h
+  where
+    go : (x : Bool) → (run p (take m l) < length (take m l) → run p l ≡ run p (take m l)) →
+        (elim x as (λ _. ℕ) [ true ↦ suc (run p (take m l)) | false ↦ 0 ]) < suc (length (take m l)) →
+        _≡_ {A = ℕ} (elim x as (λ _. ℕ) [ true ↦ suc (run p l) | false ↦ 0 ]) (elim x as (λ _. ℕ) [ true ↦ suc (run p (take m l)) | false ↦ 0 ])
+    go true f k = ap suc (f (le-of-suc-le-suc k))
+    go false f k = refl
+
+-- ---- parts of a text
+
+pub drop-take : {A : Type 0} (k m : ℕ) (l : List A) → drop k (take m l) ≡ take (m - k) (drop k l)
+drop-take zero m l = let e : m - 0 ≡ m = omega arith in rw e
+drop-take (suc k) zero l = let e : 0 - suc k ≡ 0 = omega arith in rw e
+drop-take (suc k) (suc m) [] = sym (take-nil (suc m - suc k))
+drop-take (suc k) (suc m) (x ∷ l) = let e : suc m - suc k ≡ m - k = omega arith in rw e (drop-take k m l)
+
+pub length-span : (text : List ℕ) (a e : ℕ) → length (span text a e) ≡ min (e - a) (length text - a)
+length-span text a e = length-take (e - a) (drop a text) ∙ ap (min (e - a)) (length-drop a text)
+
+-- a place of a part is a place of the text
+pub span-within : (text : List ℕ) (a e i : ℕ) → i < length (span text a e) → a + i < length text
+span-within text a e i h = omega (arith, length-span text a e)
+
+-- what follows a place of a part
+pub drop-span : (text : List ℕ) (a e i : ℕ) → drop i (span text a e) ≡ span text (a + i) e
+drop-span text a e i =
+    let n : e - a - i ≡ e - (a + i) = omega arith in
+    drop-take i (e - a) (drop a text) ∙ ap (take (e - a - i)) (drop-drop i a text) ∙ ap (λ (k : ℕ). take k (drop (a + i) text)) n
+
+-- a part of a part
+pub span-span : (text : List ℕ) (a e i j : ℕ) → j ≤ length (span text a e) → span (span text a e) i j ≡ span text (a + i) (a + j)
+span-span text a e i j h =
+    let n : a + j - (a + i) ≡ j - i = omega arith in
+    let b : j ≤ e - a = omega (arith, length-take (e - a) (drop a text)) in
+    rw n
+    (ap (take (j - i)) (drop-take i (e - a) (drop a text))
+    ∙ take-take (j - i) (e - a - i) (drop i (drop a text)) (omega arith)
+    ∙ ap (take (j - i)) (drop-drop i a text))

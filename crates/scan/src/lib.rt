@@ -1,6 +1,6 @@
 // Bytes compared and looked for.
 ghost use mathlib.Core.Path.{_≡_};
-ghost use Rattle.scan.specs.Bytes.{same, holds};
+ghost use Rattle.scan.specs.Bytes.{span, same, holds};
 
 // Whether two slices hold the same bytes.
 pub fn same_bytes(a: &[u8], b: &[u8]) -> bool
@@ -31,4 +31,20 @@ pub fn holds_byte(s: &[u8], b: u8) -> bool
         i += 1;
     }
     false
+}
+
+// The bytes of a text from place a to before place e, as many as there are.
+pub fn span(text: &[u8], a: usize, e: usize) -> &[u8]
+    ensures { λ r. ⌜ now r ≡ span (now (text .entry)) a e ⌝ }
+{
+    if e <= text.len() {
+        if a <= e {
+            return &text[a..e];
+        }
+        return &text[0..0];
+    }
+    if a <= text.len() {
+        return &text[a..];
+    }
+    &text[0..0]
 }

@@ -104,6 +104,10 @@ wanted s End = Refused 4 (length s)
 abbrev pub isWord : Token → (word : List ℕ) → Bool
 isWord t w = not (t .quoted) && same (t .content) w
 
--- what stands at a place begins so
+-- a text begins with these bytes
+abbrev pub startsWith : (word : List ℕ) → List ℕ → Bool
+startsWith w s = same (take (length w) s) w
+
+-- what stands at a place begins with these bytes
 abbrev pub standsAt : (word : List ℕ) → List ℕ → ℕ → Bool
-standsAt w s at = same (take (length w) (drop (standing s at) s)) w
+standsAt w s at = startsWith w (drop (standing s at) s)

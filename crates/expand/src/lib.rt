@@ -1,0 +1,280 @@
+// One expansion of a pattern, by its number, written as codes to a lent buffer.
+use pattern::ItemRead;
+use pattern::PartRead;
+use pattern::item_at;
+use pattern::item_end;
+use pattern::named;
+use pattern::part_at;
+use pattern::part_end;
+use pattern::piece_code;
+use pattern::seek;
+use scan::span;
+use sizes::Sizes;
+use sizes::item_size;
+use sizes::least;
+use sizes::part_size;
+use sizes::pattern_size;
+use sizes::sizes_of;
+use sizes::value_size;
+ghost use mathlib.Core.Path.{_≡_};
+ghost use mathlib.Core.List.{List, _∷_, []};
+ghost use Prim.Native.Nat.{ℕ, _+_, _/_, _%_, _≤_, _<_};
+ghost use lib.ListN.{length, getD};
+ghost use Rattle.scan.specs.Bytes.{span};
+ghost use Rattle.pattern.specs.Items.{alternatives};
+ghost use Rattle.pattern.specs.Places.{itemAt};
+ghost use Rattle.pattern.specs.Expansions.{expansions, listing};
+ghost use Rattle.pattern.specs.Codes.{decode};
+ghost use Rattle.pattern.specs.Reads.{codeIn, seenPart};
+ghost use Rattle.pattern.specs.Table.{env, ofNumber};
+ghost use Rattle.sizes.specs.Sizes.{Known, partChoices, valueChoices, oneChoices, itemChoices};
+ghost use Rattle.expand.specs.Write.{Asked, Wrote, Chosen, Written};
+
+// A value or alternative, and the number of one of its expansions.
+pub struct Choice {
+    pub start: usize,
+    pub end: usize,
+    pub digit: usize,
+}
+
+// A code at a place of the buffer, if there is room; the next place.
+fn push(out: &mut [u32], m: usize, code: u32) -> usize
+    ensures { λ r. ⌜ (m ≤ length (now (out .entry)) → (text : List ℕ) → Wrote text (now (out .entry)) m (now (out .exit)) r (decode text code ∷ [])) ⌝ }
+{
+    if m < out.len() {
+        out[m] = code;
+        return m + 1;
+    }
+    m
+}
+
+// The low digit of a number to base c, and what is left of it.
+fn low(d: usize, c: usize) -> usize
+    ensures { λ r. ⌜ (0 < c → r ≡ d % c) ⌝ }
+{
+    if c == 0 {
+        return 0;
+    }
+    d % c
+}
+
+fn high(d: usize, c: usize) -> usize
+    ensures { λ r. ⌜ (0 < c → r ≡ d / c) ⌝ }
+{
+    if c == 0 {
+        return 0;
+    }
+    d / c
+}
+
+// The value of the variable w that holds expansion d of the variable.
+fn pick_value(text: &[u8], vars: &[usize; 1120], w: usize, sizes: Sizes, d: usize) -> Choice
+    requires { ⌜ w < 32 ⌝ }
+    ensures { λ r. ⌜ (Known (now (text .entry)) (now (vars .entry)) w sizes → d < 257 → d < length (ofNumber listing (now (text .entry)) (now (vars .entry)) (w + 1)) →
+        Chosen (now (text .entry)) (env (now (text .entry)) (now (vars .entry)) w) r (ofNumber listing (now (text .entry)) (now (vars .entry)) (w + 1)) d) ⌝ }
+{
+    let m = least(16, vars[64 + w]);
+    let mut left = d;
+    let mut k = 0;
+    while k < m {
+        let j = 96 + 2 * (16 * w + k);
+        let start = vars[j];
+        let end = vars[j + 1];
+        let size = value_size(text, vars, w, sizes, start, end);
+        let c = size.count;
+        if left < c {
+            return Choice {
+                start: start,
+                end: end,
+                digit: left,
+            };
+        }
+        left -= c;
+        k += 1;
+    }
+    Choice {
+        start: 0,
+        end: 0,
+        digit: 0,
+    }
+}
+
+// The alternative that holds expansion d of those that commas part.
+fn pick_alternative(
+    text: &[u8],
+    vars: &[usize; 1120],
+    n: usize,
+    sizes: Sizes,
+    a: usize,
+    e: usize,
+    d: usize,
+) -> Choice
+    ensures { λ r. ⌜ (Known (now (text .entry)) (now (vars .entry)) n sizes → d < 257 →
+        d < length (oneChoices (env (now (text .entry)) (now (vars .entry)) n) (alternatives (span (now (text .entry)) a e))) →
+        Chosen (now (text .entry)) (env (now (text .entry)) (now (vars .entry)) n) r
+        (oneChoices (env (now (text .entry)) (now (vars .entry)) n) (alternatives (span (now (text .entry)) a e))) d) ⌝ }
+{
+    let s = span(text, a, e);
+    let mut left = d;
+    let mut i = 0;
+    loop {
+        let j = seek(s, i, b',');
+        let start = a + i;
+        let end = a + j;
+        let size = value_size(text, vars, n, sizes, start, end);
+        let c = size.count;
+        let found = Choice {
+            start: start,
+            end: end,
+            digit: left,
+        };
+        if s.len() <= j {
+            return found;
+        }
+        if left < c {
+            return found;
+        }
+        left -= c;
+        i = j + 1;
+    }
+}
+
+// Expansion d of a part.
+fn write_part(
+    n: usize,
+    text: &[u8],
+    vars: &[usize; 1120],
+    sizes: Sizes,
+    p: PartRead,
+    d: usize,
+    out: &mut [u32],
+    m: usize,
+) -> usize
+    ensures { λ r. ⌜ (Asked (now (text .entry)) (now (vars .entry)) n sizes (partChoices (env (now (text .entry)) (now (vars .entry)) n) (seenPart (now (text .entry)) p)) d (now (out .entry)) m →
+        codeIn p ≤ 65536 + length (now (text .entry)) →
+        Wrote (now (text .entry)) (now (out .entry)) m (now (out .exit)) r (getD (partChoices (env (now (text .entry)) (now (vars .entry)) n) (seenPart (now (text .entry)) p)) d [])) ⌝ }
+{
+    match p {
+        PartRead::Is(q) => push(out, m, piece_code(q)),
+        PartRead::Use { start, end } => {
+            let r = named(text, vars, n, start, end);
+            if r == 0 {
+                return m;
+            }
+            let c = pick_value(text, vars, r - 1, sizes, d);
+            write_value(r - 1, text, vars, sizes, c.start, c.end, c.digit, out, m)
+        }
+        PartRead::Bad => m,
+    }
+}
+
+// Expansion d of a value or alternative.
+fn write_value(
+    n: usize,
+    text: &[u8],
+    vars: &[usize; 1120],
+    sizes: Sizes,
+    a: usize,
+    e: usize,
+    d: usize,
+    out: &mut [u32],
+    m: usize,
+) -> usize
+    ensures { λ r. ⌜ (Asked (now (text .entry)) (now (vars .entry)) n sizes (valueChoices (env (now (text .entry)) (now (vars .entry)) n) (span (now (text .entry)) a e)) d (now (out .entry)) m →
+        Wrote (now (text .entry)) (now (out .entry)) m (now (out .exit)) r (getD (valueChoices (env (now (text .entry)) (now (vars .entry)) n) (span (now (text .entry)) a e)) d [])) ⌝ }
+{
+    let s = span(text, a, e);
+    let mut left = d;
+    let mut w = m;
+    let mut at = 0;
+    while at < s.len() {
+        let p = part_at(text, a, e, at);
+        let size = part_size(text, vars, n, sizes, p);
+        let c = size.count;
+        w = write_part(n, text, vars, sizes, p, low(left, c), out, w);
+        left = high(left, c);
+        at = part_end(s, at);
+    }
+    w
+}
+
+// Expansion d of the item at a place of the span from a to e.
+fn write_item(
+    n: usize,
+    text: &[u8],
+    vars: &[usize; 1120],
+    sizes: Sizes,
+    a: usize,
+    e: usize,
+    at: usize,
+    d: usize,
+    out: &mut [u32],
+    m: usize,
+) -> usize
+    ensures { λ r. ⌜ (Asked (now (text .entry)) (now (vars .entry)) n sizes (itemChoices (env (now (text .entry)) (now (vars .entry)) n) (itemAt (span (now (text .entry)) a e) at)) d (now (out .entry)) m →
+        Wrote (now (text .entry)) (now (out .entry)) m (now (out .exit)) r (getD (itemChoices (env (now (text .entry)) (now (vars .entry)) n) (itemAt (span (now (text .entry)) a e) at)) d [])) ⌝ }
+{
+    let i = item_at(text, a, e, at);
+    match i {
+        ItemRead::Single(_) => {
+            let p = part_at(text, a, e, at);
+            write_part(n, text, vars, sizes, p, d, out, m)
+        }
+        ItemRead::Among { start, end } => {
+            let c = pick_alternative(text, vars, n, sizes, start, end, d);
+            write_value(n, text, vars, sizes, c.start, c.end, c.digit, out, m)
+        }
+    }
+}
+
+// Expansion d of the pattern from a to before e, as far as there is room; how many codes that is.
+pub fn write_pattern(
+    text: &[u8],
+    vars: &[usize; 1120],
+    n: usize,
+    sizes: Sizes,
+    a: usize,
+    e: usize,
+    d: usize,
+    out: &mut [u32],
+) -> usize
+    ensures { λ r. ⌜ (Known (now (text .entry)) (now (vars .entry)) n sizes → length (now (text .entry)) ≤ 65535 → d < 257 →
+        d < length (expansions (env (now (text .entry)) (now (vars .entry)) n) (span (now (text .entry)) a e)) →
+        Written (now (text .entry)) (now (out .entry)) (now (out .exit)) r (getD (expansions (env (now (text .entry)) (now (vars .entry)) n) (span (now (text .entry)) a e)) d [])) ⌝ }
+{
+    let s = span(text, a, e);
+    let mut left = d;
+    let mut w = 0;
+    let mut at = 0;
+    while at < s.len() {
+        let i = item_at(text, a, e, at);
+        let size = item_size(text, vars, n, sizes, i);
+        let c = size.count;
+        w = write_item(n, text, vars, sizes, a, e, at, low(left, c), out, w);
+        left = high(left, c);
+        at = item_end(s, at);
+    }
+    w
+}
+
+// The same with the sizes of the variables computed here, and none where there is no such expansion.
+pub fn write(
+    text: &[u8],
+    vars: &[usize; 1120],
+    n: usize,
+    a: usize,
+    e: usize,
+    d: usize,
+    out: &mut [u32],
+) -> usize
+    ensures { λ r. ⌜ (length (now (text .entry)) ≤ 65535 → d < 257 →
+        Written (now (text .entry)) (now (out .entry)) (now (out .exit)) r (getD (expansions (env (now (text .entry)) (now (vars .entry)) n) (span (now (text .entry)) a e)) d [])) ⌝ }
+{
+    let sizes = sizes_of(text, vars, n);
+    let size = pattern_size(text, vars, n, sizes, a, e);
+    let c = size.count;
+    if c <= d {
+        return 0;
+    }
+    write_pattern(text, vars, n, sizes, a, e, d, out)
+}

@@ -1,0 +1,4 @@
+pub mod Across
+pub mod Choices
+pub mod Laws
+pub mod Loops
