@@ -78,7 +78,7 @@ preferred-fixed (m ∷ ms) (n ∷ ns) us vs s t = s
 
 -- ---- the answer
 
-move-fixed : (f g : Findings) → SameMembers (f .exact) (g .exact) → SameMembers (f .others) (g .others) → moveOf f ≡ moveOf g
+pub move-fixed : (f g : Findings) → SameMembers (f .exact) (g .exact) → SameMembers (f .others) (g .others) → moveOf f ≡ moveOf g
 unfolding moveOf
 move-fixed f g s t =
     choice-fixed (preferred (f .exact) (f .others)) (preferred (g .exact) (g .others)) (preferred-fixed (f .exact) (g .exact) (f .others) (g .others) s t)

@@ -1,2 +1,4 @@
 pub mod Joining
 pub mod Fixed
+pub mod Parts
+pub mod Orders

@@ -1,1 +1,4 @@
+pub mod Computed
 pub mod MarkedCases
+pub mod Orders
+pub mod Examples

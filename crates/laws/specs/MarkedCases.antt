@@ -4,31 +4,15 @@ use Prim.Native.String.{String}
 use mathlib.Core.Path.{_≡_, refl}
 use mathlib.Core.List.{List, [], _∷_, map}
 use mathlib.Core.Bool.{Bool, true, false}
-use Rattle.scan.specs.Bytes.{bytes, every, some, same, run}
-use Rattle.perms.specs.Sets.{has, perms}
-use Rattle.perms.specs.Modes.{modeIn}
-use Rattle.perms.specs.Words.{letters, carried, withMode, wordOf}
+use Rattle.scan.specs.Bytes.{bytes}
+use Rattle.perms.specs.Sets.{perms}
 use Rattle.perms.specs.declared.Kind.the-variants as kind
 use Rattle.perms.specs.declared.Fallback.the-variants as fallback
 use Rattle.perms.specs.declared.Execute.{Execute}
 use Rattle.perms.specs.declared.Execute.the-variants.{NotAsked, ByMode}
-use Rattle.text.specs.Reading.{feeds, lineOf}
-use Rattle.text.specs.Tokens.{includes, skip, tokenFrom, tokenAt}
-use Rattle.text.specs.Words.{notTaken}
-use Rattle.class.specs.Class.{ranges, goodClass, listed, inClass}
-use Rattle.pattern.specs.Pieces.{upTo, extra, part, parts}
-use Rattle.pattern.specs.Items.{before, afterComma, item, reach, items, valueForm, patternForm, valueNames, patternNames}
-use Rattle.pattern.specs.Expansions.{isSet, ofParts, oneOf, ofName, ofItems, across, expansions, count, longest, joinedAfter}
-use Rattle.pattern.specs.Faults.{tooMany, rooted, valueFault, patternFault}
-use Rattle.matcher.specs.Match.{matches, matchesSome, matchesExactly}
-use Rattle.rule.specs.Names.{nameForm}
-use Rattle.preamble.specs.Variables.{variableForm, valuesOf, setBefore, extended, assigned, finalSets}
-use Rattle.preamble.specs.Preamble.{valuesAt, named, operatorFrom, assignmentFrom, preambleAt}
-use Rattle.rule.specs.Rules.{optional, qualifiersAt, patternAt, permsAt, targetAt, commaAt, ruleFrom, rulesAt}
-use Rattle.profile.specs.Profiles.{nameAt, openAt, headAt, profilesAt, fileOf}
-use Rattle.decide.specs.Findings.{applies, those, bits, moves, findings}
-use Rattle.decide.specs.Answers.{choice, moveOf, executeOf, grants, records, targetOf, answerFrom, doubled, badPath, answerIn, answerOf}
+use Rattle.decide.specs.Answers.{targetOf, answerOf}
 use Rattle.decide.specs.declared.Answer.{Answer}
+use Rattle.laws.specs.Computed.{computed}
 use Rattle.decide.specs.declared.Verdict.the-variants.{Answered}
 
 -- "Text T"
@@ -84,5 +68,5 @@ stated c =
     }
 
 pub marked-cases : map given marked ≡ map stated marked
-unfolding bytes every some same run has modeIn letters carried withMode wordOf feeds lineOf includes skip tokenFrom tokenAt notTaken ranges goodClass listed inClass upTo extra part parts before afterComma item reach items valueForm patternForm valueNames patternNames isSet ofParts oneOf ofName ofItems across expansions count longest joinedAfter tooMany rooted valueFault patternFault matches matchesSome matchesExactly nameForm variableForm valuesOf setBefore extended assigned finalSets valuesAt named operatorFrom assignmentFrom preambleAt optional qualifiersAt patternAt permsAt targetAt commaAt ruleFrom rulesAt nameAt openAt headAt profilesAt fileOf applies those bits moves findings choice moveOf executeOf grants records answerFrom doubled badPath answerIn answerOf
+unfolding computed
 marked-cases = refl

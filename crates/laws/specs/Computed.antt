@@ -1,0 +1,29 @@
+-- One name whose unfolding opens every definition on the way from a text to its answer, for theorems by computation.
+use Prim.Native.Nat.{ℕ}
+use mathlib.Core.List.{List}
+use mathlib.Core.Bool.{Bool}
+use Rattle.class.specs.Class.{ranges, goodClass, listed, inClass}
+use Rattle.decide.specs.Answers.{choice, moveOf, executeOf, grants, records, answerFrom, doubled, badPath, answerIn, answerOf}
+use Rattle.decide.specs.Findings.{applies, those, bits, moves, findings}
+use Rattle.matcher.specs.Match.{matches, matchesSome, matchesExactly}
+use Rattle.pattern.specs.Expansions.{isSet, ofParts, oneOf, ofName, ofItems, across, expansions, count, longest, joinedAfter}
+use Rattle.pattern.specs.Faults.{tooMany, rooted, valueFault, patternFault}
+use Rattle.pattern.specs.Items.{before, afterComma, item, reach, items, valueForm, patternForm, valueNames, patternNames}
+use Rattle.pattern.specs.Pieces.{upTo, extra, part, parts}
+use Rattle.perms.specs.Modes.{modeIn, sameMode}
+use Rattle.perms.specs.Sets.{has}
+use Rattle.perms.specs.Words.{letters, carried, withMode, wordOf}
+use Rattle.preamble.specs.Preamble.{valuesAt, named, operatorFrom, assignmentFrom, preambleAt}
+use Rattle.preamble.specs.Variables.{variableForm, valuesOf, setBefore, extended, assigned, finalSets}
+use Rattle.profile.specs.Profiles.{nameAt, openAt, headAt, profilesAt, fileOf}
+use Rattle.rule.specs.Names.{nameForm}
+use Rattle.rule.specs.Rules.{optional, qualifiersAt, patternAt, permsAt, targetAt, commaAt, ruleFrom, rulesAt}
+use Rattle.scan.specs.Bytes.{bytes, every, some, same, run}
+use Rattle.text.specs.Reading.{feeds, lineOf}
+use Rattle.text.specs.Tokens.{includes, skip, tokenFrom, tokenAt}
+use Rattle.text.specs.Words.{notTaken}
+use Rattle.decide.specs.declared.Answer.{Answer}
+
+unfoldable pub computed : (text name path : List ℕ) (asked : ℕ) (owner : Bool) → Answer
+unfolding bytes every some same run has modeIn letters carried withMode wordOf feeds lineOf includes skip tokenFrom tokenAt notTaken ranges goodClass listed inClass upTo extra part parts before afterComma item reach items valueForm patternForm valueNames patternNames isSet ofParts oneOf ofName ofItems across expansions count longest joinedAfter tooMany rooted valueFault patternFault matches matchesSome matchesExactly nameForm variableForm valuesOf setBefore extended assigned finalSets valuesAt named operatorFrom assignmentFrom preambleAt optional qualifiersAt patternAt permsAt targetAt commaAt ruleFrom rulesAt nameAt openAt headAt profilesAt fileOf applies those bits moves findings choice moveOf executeOf grants records answerFrom doubled badPath answerIn answerOf sameMode
+computed = answerOf

@@ -1,0 +1,174 @@
+-- Pairs of texts that meet what the sentences of demand 3 suppose, so that none holds of nothing, and pairs that show where they stop.
+use Prim.Native.Nat.{ℕ}
+use Prim.Native.String.{String}
+use mathlib.Core.Path.{_≡_, refl}
+use mathlib.Core.List.{List, [], _∷_, List·Memᴰ, List·Memᴰ·head, List·Memᴰ·tail, List·Memᴰ·not-nil, List·Memᴰ·cases-cons, Memᴰ·cast}
+use mathlib.Core.Bool.{Bool, true, false}
+use mathlib.Core.Logic.{⊎-elim}
+use native.Mathlib.Omega.{arith}
+use Rattle.scan.specs.Bytes.{bytes}
+use Rattle.perms.specs.Sets.{perms}
+use Rattle.perms.specs.declared.Kind.the-variants as kind
+use Rattle.perms.specs.declared.Fallback.the-variants as fallback
+use Rattle.perms.specs.declared.Mode.{Mode}
+use Rattle.perms.specs.declared.Execute.{Execute}
+use Rattle.perms.specs.declared.Execute.the-variants.{Conflict, ByMode}
+use Rattle.perms.specs.declared.Transition.{Transition}
+use Rattle.perms.specs.declared.Transition.the-variants as transition
+use Rattle.rule.specs.Rules.{Rule}
+use Rattle.profile.specs.Profiles.{Profile, File}
+use Rattle.decide.specs.Findings.{allows, denies}
+use Rattle.decide.specs.Answers.{answerOf}
+use Rattle.laws.specs.Computed.{computed}
+use Rattle.laws.specs.Orders.{Accepted, SameRules, Added, none, kept, added, both, SameButRules, Holds, here, later}
+
+-- a rule without audit, owner and target
+abbrev rule : (deny : Bool) → String → ℕ → Transition → Rule
+rule deny pattern set tr =
+    record { audit = false; deny = deny; owner = false; pattern = bytes pattern; perms = perms set; transition = tr; target = [] }
+
+abbrev ix : Mode
+ix = record { kind = kind.Inherit; fallback = fallback.Absent; scrubs = false }
+
+abbrev px : Mode
+px = record { kind = kind.Profile; fallback = fallback.Absent; scrubs = false }
+
+-- the file of one profile
+abbrev only : String → List Rule → File
+only name rules = record { preamble = []; profiles = record { name = bytes name; rules = rules } ∷ [] }
+
+-- ---- the same rules
+
+abbrev ordered : String
+ordered = "/p { /a r, /b w, }"
+
+abbrev shuffled : String
+shuffled = "profile /p { /b ww, # again\n \"/a\" r, allow /a rr, }"
+
+abbrev readA : Rule
+readA = rule false "/a" 1 transition.Absent
+
+abbrev writeB : Rule
+writeB = rule false "/b" 6 transition.Absent
+
+pub ordered-file : Accepted (bytes ordered) (only "/p" (readA ∷ writeB ∷ []))
+unfolding computed
+ordered-file = record { short = omega arith; file = refl }
+
+pub shuffled-file : Accepted (bytes shuffled) (only "/p" (writeB ∷ readA ∷ readA ∷ []))
+unfolding computed
+shuffled-file = record { short = omega arith; file = refl }
+
+in-none : (ys : List Rule) (r : Rule) → List·Memᴰ r [] → List·Memᴰ r ys
+in-none ys r m = absurd (List·Memᴰ·not-nil m)
+
+in-more : (x : Rule) (xs ys : List Rule) → List·Memᴰ x ys → ((r : Rule) → List·Memᴰ r xs → List·Memᴰ r ys) → (r : Rule) → List·Memᴰ r (x ∷ xs) → List·Memᴰ r ys
+in-more x xs ys m h r w = ⊎-elim (λ e. Memᴰ·cast e m) (λ k. h r k) (List·Memᴰ·cases-cons w)
+
+pub same-rules : SameButRules SameRules (only "/p" (readA ∷ writeB ∷ [])) (only "/p" (writeB ∷ readA ∷ readA ∷ []))
+same-rules =
+    record {
+      preamble = refl;
+      profiles = both (record { name = bytes "/p"; rules = readA ∷ writeB ∷ [] }) (record { name = bytes "/p"; rules = writeB ∷ readA ∷ readA ∷ [] }) refl (
+        in-more readA (writeB ∷ []) _ (List·Memᴰ·tail (List·Memᴰ·head refl)) (in-more writeB [] _ (List·Memᴰ·head refl) (in-none _)),
+        in-more writeB (readA ∷ readA ∷ []) _ (List·Memᴰ·tail (List·Memᴰ·head refl)) (in-more readA (readA ∷ []) _ (List·Memᴰ·head refl) (in-more readA [] _ (List·Memᴰ·head refl) (in-none _))),
+      )
+          none;
+    }
+
+-- ---- deny rules added
+
+abbrev opened : Rule
+opened = rule false "/a*" 7 transition.Absent
+
+abbrev barred : Rule
+barred = rule true "/ab" 6 transition.Absent
+
+pub open-file : Accepted (bytes "/p { /a* rw, }") (only "/p" (opened ∷ []))
+unfolding computed
+open-file = record { short = omega arith; file = refl }
+
+pub barred-file : Accepted (bytes "/p { deny /ab w, /a* rw, deny /ab w, }") (only "/p" (barred ∷ opened ∷ barred ∷ []))
+unfolding computed
+barred-file = record { short = omega arith; file = refl }
+
+pub denied-more : SameButRules (Added denies) (only "/p" (opened ∷ [])) (only "/p" (barred ∷ opened ∷ barred ∷ []))
+denied-more =
+    record {
+      preamble = refl;
+      profiles = both (record { name = bytes "/p"; rules = opened ∷ [] }) (record { name = bytes "/p"; rules = barred ∷ opened ∷ barred ∷ [] }) refl
+          (added barred refl (kept opened (added barred refl none))) none;
+    }
+
+-- ---- allow rules added
+
+abbrev runs : Rule
+runs = rule false "/bin/*" 64 (transition.ByMode px)
+
+abbrev inherits : Rule
+inherits = rule false "/bin/c*" 64 (transition.ByMode ix)
+
+abbrev exact : Rule
+exact = rule false "/bin/cat" 64 (transition.ByMode ix)
+
+pub runs-file : Accepted (bytes "/p { /bin/* px, }") (only "/p" (runs ∷ []))
+unfolding computed
+runs-file = record { short = omega arith; file = refl }
+
+pub conflict-file : Accepted (bytes "/p { /bin/* px, /bin/c* ix, }") (only "/p" (runs ∷ inherits ∷ []))
+unfolding computed
+conflict-file = record { short = omega arith; file = refl }
+
+pub exact-file : Accepted (bytes "/p { /bin/cat ix, /bin/* px, }") (only "/p" (exact ∷ runs ∷ []))
+unfolding computed
+exact-file = record { short = omega arith; file = refl }
+
+pub allowed-more : SameButRules (Added allows) (only "/p" (runs ∷ [])) (only "/p" (runs ∷ inherits ∷ []))
+allowed-more =
+    record {
+      preamble = refl;
+      profiles = both (record { name = bytes "/p"; rules = runs ∷ [] }) (record { name = bytes "/p"; rules = runs ∷ inherits ∷ [] }) refl (kept runs (added inherits refl none)) none;
+    }
+
+pub allowed-before : SameButRules (Added allows) (only "/p" (runs ∷ [])) (only "/p" (exact ∷ runs ∷ []))
+allowed-before =
+    record {
+      preamble = refl;
+      profiles = both (record { name = bytes "/p"; rules = runs ∷ [] }) (record { name = bytes "/p"; rules = exact ∷ runs ∷ [] }) refl (added exact refl (kept runs none)) none;
+    }
+
+abbrev asks : String → Execute
+asks text = answerOf (bytes text) (bytes "/p") (bytes "/bin/cat") 64 false .execute
+
+-- "execute may be lost only to a conflict, and its transition may change": both happen
+pub lost-to-conflict : (asks "/p { /bin/* px, }" ≡ ByMode px) × (asks "/p { /bin/* px, /bin/c* ix, }" ≡ Conflict)
+unfolding computed
+lost-to-conflict = (refl, refl)
+
+pub transition-changes : (asks "/p { /bin/* px, }" ≡ ByMode px) × (asks "/p { /bin/cat ix, /bin/* px, }" ≡ ByMode ix)
+unfolding computed
+transition-changes = (refl, refl)
+
+-- ---- other profiles
+
+abbrev alone : File
+alone = only "/p" (readA ∷ [])
+
+abbrev beside : File
+beside = record { preamble = []; profiles = record { name = bytes "/q"; rules = writeB ∷ [] } ∷ record { name = bytes "/p"; rules = readA ∷ [] } ∷ [] }
+
+pub alone-file : Accepted (bytes "/p { /a r, }") alone
+unfolding computed
+alone-file = record { short = omega arith; file = refl }
+
+pub beside-file : Accepted (bytes "/q { /b w, } profile /p { /a r, }") beside
+unfolding computed
+beside-file = record { short = omega arith; file = refl }
+
+pub alone-holds : Holds (bytes "/p") (readA ∷ []) (alone .profiles)
+unfolding computed
+alone-holds = here (record { name = bytes "/p"; rules = readA ∷ [] }) refl refl
+
+pub beside-holds : Holds (bytes "/p") (readA ∷ []) (beside .profiles)
+unfolding computed
+beside-holds = later (record { name = bytes "/q"; rules = writeB ∷ [] }) refl (here (record { name = bytes "/p"; rules = readA ∷ [] }) refl refl)
