@@ -256,25 +256,3 @@ pub fn write_pattern(
     }
     w
 }
-
-// The same with the sizes of the variables computed here, and none where there is no such expansion.
-pub fn write(
-    text: &[u8],
-    vars: &[usize; 1120],
-    n: usize,
-    a: usize,
-    e: usize,
-    d: usize,
-    out: &mut [u32],
-) -> usize
-    ensures { λ r. ⌜ (length (now (text .entry)) ≤ 65535 → d < 257 →
-        Written (now (text .entry)) (now (out .entry)) (now (out .exit)) r (getD (expansions (env (now (text .entry)) (now (vars .entry)) n) (span (now (text .entry)) a e)) d [])) ⌝ }
-{
-    let sizes = sizes_of(text, vars, n);
-    let size = pattern_size(text, vars, n, sizes, a, e);
-    let c = size.count;
-    if c <= d {
-        return 0;
-    }
-    write_pattern(text, vars, n, sizes, a, e, d, out)
-}

@@ -45,7 +45,7 @@ pub fn begins_at(s: &[u8], at: usize, c: u8) -> bool
 }
 
 // How many bytes stand from a place up to the first c and with it; 0 where there is no c.
-pub fn up_to(s: &[u8], at: usize, c: u8) -> usize
+fn up_to(s: &[u8], at: usize, c: u8) -> usize
     ensures { λ r. ⌜ r ≡ upTo c (drop at (now (s .entry))) ⌝ }
 {
     let mut i = at;

@@ -237,11 +237,3 @@ pub fn pattern_size(
     }
     size
 }
-
-// The size of the pattern from a to before e under the first n variables.
-pub fn measure(text: &[u8], vars: &[usize; 1120], n: usize, a: usize, e: usize) -> Size
-    ensures { λ r. ⌜ r ≡ sizeOf (expansions (env (now (text .entry)) (now (vars .entry)) n) (span (now (text .entry)) a e)) ⌝ }
-{
-    let sizes = sizes_of(text, vars, n);
-    pattern_size(text, vars, n, sizes, a, e)
-}

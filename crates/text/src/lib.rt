@@ -44,7 +44,7 @@ pub struct Stop {
 }
 
 // The first n bytes, or all where there are fewer.
-pub fn first_bytes(s: &[u8], n: usize) -> &[u8]
+fn first_bytes(s: &[u8], n: usize) -> &[u8]
     ensures { λ r. ⌜ now r ≡ take n (now (s .entry)) ⌝ }
 {
     if n <= s.len() {
