@@ -1,0 +1,129 @@
+// A whole pattern against a path: every expansion is tried.
+use expand::write_pattern;
+use faults::pattern_fault;
+use matcher::is_literal;
+use matcher::join_slashes;
+use sizes::Sizes;
+use sizes::pattern_size;
+use sizes::sizes_of;
+ghost use mathlib.Core.Path.{_≡_};
+ghost use mathlib.Core.List.{[]};
+ghost use Prim.Native.Nat.{ℕ, _<_};
+ghost use lib.ListN.{length, getD};
+ghost use Rattle.scan.specs.Bytes.{span};
+ghost use Rattle.pattern.specs.Expansions.{expansions};
+ghost use Rattle.pattern.specs.Table.{env};
+ghost use Rattle.sizes.specs.Sizes.{Known};
+ghost use Rattle.matcher.specs.Match.{matchesSome, matchesExactly};
+ghost use Rattle.glob.specs.Glob.{matchedOf, matchedBy, Within};
+
+// Whether some expansion matches, and whether one of literals only does.
+pub struct Matched {
+    pub some: bool,
+    pub exact: bool,
+}
+
+// Expansion d of the pattern from a to before e against a path.
+fn match_expansion(
+    text: &[u8],
+    vars: &[usize; 1120],
+    n: usize,
+    sizes: Sizes,
+    a: usize,
+    e: usize,
+    d: usize,
+    path: &[u8],
+) -> Matched
+    ensures { λ r. ⌜ (Known (now (text .entry)) (now (vars .entry)) n sizes →
+        Within (now (text .entry)) (expansions (env (now (text .entry)) (now (vars .entry)) n) (span (now (text .entry)) a e)) (now (path .entry)) →
+        d < length (expansions (env (now (text .entry)) (now (vars .entry)) n) (span (now (text .entry)) a e)) →
+        r ≡ matchedBy (getD (expansions (env (now (text .entry)) (now (vars .entry)) n) (span (now (text .entry)) a e)) d []) (now (path .entry))) ⌝ }
+{
+    let mut codes = [0u32; 1024];
+    let count = write_pattern(text, vars, n, sizes, a, e, d, &mut codes);
+    let literal = is_literal(&codes, count);
+    let left = join_slashes(&mut codes, count);
+    let some = matcher::matched(text, &codes, left, path);
+    Matched {
+        some: some,
+        exact: literal & some,
+    }
+}
+
+// Each expansion in turn, up to the first of literals only that matches.
+fn match_expansions(
+    text: &[u8],
+    vars: &[usize; 1120],
+    n: usize,
+    sizes: Sizes,
+    a: usize,
+    e: usize,
+    path: &[u8],
+) -> Matched
+    ensures { λ r. ⌜ (Known (now (text .entry)) (now (vars .entry)) n sizes →
+        Within (now (text .entry)) (expansions (env (now (text .entry)) (now (vars .entry)) n) (span (now (text .entry)) a e)) (now (path .entry)) →
+        r ≡ record {
+          some = matchesSome (env (now (text .entry)) (now (vars .entry)) n) (span (now (text .entry)) a e) (now (path .entry));
+          exact = matchesExactly (env (now (text .entry)) (now (vars .entry)) n) (span (now (text .entry)) a e) (now (path .entry));
+        }) ⌝ }
+{
+    let size = pattern_size(text, vars, n, sizes, a, e);
+    let count = size.count;
+    let mut some = false;
+    let mut d = 0;
+    while d < count {
+        let m = match_expansion(text, vars, n, sizes, a, e, d, path);
+        if m.exact {
+            return Matched {
+                some: true,
+                exact: true,
+            };
+        }
+        some = some | m.some;
+        d += 1;
+    }
+    Matched {
+        some: some,
+        exact: false,
+    }
+}
+
+// The pattern from a to before e against a path, the sizes of the first n variables being known.
+pub fn match_pattern(
+    text: &[u8],
+    vars: &[usize; 1120],
+    n: usize,
+    sizes: Sizes,
+    a: usize,
+    e: usize,
+    path: &[u8],
+) -> Matched
+    ensures { λ r. ⌜ (Known (now (text .entry)) (now (vars .entry)) n sizes →
+        r ≡ matchedOf (now (text .entry)) (env (now (text .entry)) (now (vars .entry)) n) (span (now (text .entry)) a e) (now (path .entry))) ⌝ }
+{
+    if (text.len() <= 65535) & (path.len() <= 4095) {
+        let fault = pattern_fault(text, vars, n, sizes, a, e);
+        if fault == 0 {
+            return match_expansions(text, vars, n, sizes, a, e, path);
+        }
+    }
+    Matched {
+        some: false,
+        exact: false,
+    }
+}
+
+// The same with the sizes of the variables computed here.
+pub fn match_once(
+    text: &[u8],
+    vars: &[usize; 1120],
+    n: usize,
+    a: usize,
+    e: usize,
+    path: &[u8],
+) -> Matched
+    ensures { λ r. ⌜ r ≡ matchedOf (now (text .entry)) (env (now (text .entry)) (now (vars .entry)) n) (span (now (text .entry)) a e) (now (path .entry)) ⌝ }
+{
+    let sizes = sizes_of(text, vars, n);
+    match_pattern(text, vars, n, sizes, a, e, path)
+}
