@@ -41,9 +41,9 @@ returns c =
     let vs = env (now (a .text)) (now (a .vars)) (a .n) in
     let s = span (now (a .text)) (a .a) (a .e) in
     λ k w h. expansion-matched (now (a .path)) (w .fits)
-        (wrote-whole (now (a .text)) _ _ (c .before .before .before .before .before .before .before .before .write-pattern .result) (a .d) (expansions vs s) (w .room)
-        (c .before .before .before .before .before .before .before .before .write-pattern .ensures k (w .short) (omega (arith, w .few)) h))
-        (c .before .before .before .before .before .is-literal .ensures (now (a .text))) (joins-decode (now (a .text)) (c .before .before .before .join-slashes .ensures)) (c .matched .ensures)
+    (wrote-whole (now (a .text)) _ _ (c .before .before .before .before .before .before .before .before .write-pattern .result) (a .d) (expansions vs s) (w .room)
+    (c .before .before .before .before .before .before .before .before .write-pattern .ensures k (w .short) (omega (arith, w .few)) h))
+    (c .before .before .before .before .before .is-literal .ensures (now (a .text))) (joins-decode (now (a .text)) (c .before .before .before .join-slashes .ensures)) (c .matched .ensures)
 
 pub match-expansion-spec : {M : Type 1} → statement M
 match-expansion-spec =

@@ -42,8 +42,8 @@ returns c =
     let vs = env (now (a .text)) (now (a .vars)) (a .n) in
     let s = span (now (a .text)) (a .a) (a .e) in
     λ k w. tried-found (now (a .path)) (expansions vs s) (c .before .before .before .loop .inv .1 k w)
-        (omega (arith, size-count (expansions vs s) (c .before .before .before .before .pattern-size .ensures k), w .few))
-        (c .before .match-expansion .ensures k w (omega (arith, size-count (expansions vs s) (c .before .before .before .before .pattern-size .ensures k), w .few))) (c .if1 .taken) ∙ by-all vs s (now (a .path))
+    (omega (arith, size-count (expansions vs s) (c .before .before .before .before .pattern-size .ensures k), w .few))
+    (c .before .match-expansion .ensures k w (omega (arith, size-count (expansions vs s) (c .before .before .before .before .pattern-size .ensures k), w .few))) (c .if1 .taken) ∙ by-all vs s (now (a .path))
 
 add-d : tie.Need-add-d Inv-loop μ-loop
 add-d c = search needs
@@ -55,10 +55,12 @@ loop-again : tie.Need-loop-again Inv-loop μ-loop
 loop-again c =
     let a = (c .before .before .before .before .before .before .before .before .args) in
     let vs = env (now (a .text)) (now (a .vars)) (a .n) in
-    let s = span (now (a .text)) (a .a) (a .e) in
-    (omega arith, λ k w. tried-more (now (a .path)) (expansions vs s) (c .before .before .before .before .loop .inv .1 k w)
-        (omega (arith, size-count (expansions vs s) (c .before .before .before .before .before .pattern-size .ensures k), w .few))
-        (c .before .before .match-expansion .ensures k w (omega (arith, size-count (expansions vs s) (c .before .before .before .before .before .pattern-size .ensures k), w .few))) (c .before .if1 .left))
+    let s = span (now (a .text)) (a .a) (a .e) in (
+      omega arith,
+      λ k w. tried-more (now (a .path)) (expansions vs s) (c .before .before .before .before .loop .inv .1 k w)
+          (omega (arith, size-count (expansions vs s) (c .before .before .before .before .before .pattern-size .ensures k), w .few))
+          (c .before .before .match-expansion .ensures k w (omega (arith, size-count (expansions vs s) (c .before .before .before .before .before .pattern-size .ensures k), w .few))) (c .before .if1 .left),
+    )
 
 returns-2 : tie.Need-returns-2 Inv-loop μ-loop
 returns-2 c =
@@ -66,7 +68,7 @@ returns-2 c =
     let vs = env (now (a .text)) (now (a .vars)) (a .n) in
     let s = span (now (a .text)) (a .a) (a .e) in
     λ k w. tried-all (now (a .path)) (expansions vs s) (c .before .loop .inv .1 k w)
-        (omega (arith, size-count (expansions vs s) (c .before .before .pattern-size .ensures k), w .few)) ∙ by-all vs s (now (a .path))
+    (omega (arith, size-count (expansions vs s) (c .before .before .pattern-size .ensures k), w .few)) ∙ by-all vs s (now (a .path))
 
 pub match-expansions-spec : {M : Type 1} → statement M
 match-expansions-spec =
