@@ -1,2 +1,3 @@
 pub mod Variables
 pub mod Preamble
+pub mod Places

@@ -148,7 +148,7 @@ fn skip_end(text: &[u8], at: usize) -> usize
 }
 
 // Where an unquoted token's bytes end.
-fn plain_end(text: &[u8], at: usize, stop: u8) -> usize
+pub fn plain_end(text: &[u8], at: usize, stop: u8) -> usize
     ensures { λ r. ⌜ r ≡ at + run (plain stop) (drop at (now (text .entry))) ⌝ }
 {
     let mut i = at;

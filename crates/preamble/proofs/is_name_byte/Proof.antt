@@ -1,0 +1,12 @@
+use borrow.Author.Needs.{needs}
+use Rattle.preamble.proofs.is_name_byte.Statement.{statement}
+use Rattle.preamble.proofs.is_name_byte.Tie as tie
+
+is-letter-requires : tie.Need-is-letter-requires
+is-letter-requires c κs = search needs
+
+returns : tie.Need-returns
+returns c = rw (c .is-letter .ensures)
+
+pub is-name-byte-spec : {M : Type 1} → statement M
+is-name-byte-spec = tie.close (tie.spec is-letter-requires returns)
