@@ -16,11 +16,11 @@ use Rattle.faults.specs.Sized.{sizeFault}
 
 -- ---- a value
 
-empty-yes : (s : List ℕ) → length s ≡ 0 → isEmpty s ≡ true
+pub empty-yes : (s : List ℕ) → length s ≡ 0 → isEmpty s ≡ true
 empty-yes [] e = refl
 empty-yes (b ∷ s) e = absurd (omega arith)
 
-empty-no : (s : List ℕ) → (length s ≡ 0 → ⊥) → isEmpty s ≡ false
+pub empty-no : (s : List ℕ) → (length s ≡ 0 → ⊥) → isEmpty s ≡ false
 empty-no [] e = absurd (e refl)
 empty-no (b ∷ s) e = refl
 

@@ -22,6 +22,7 @@ use Rattle.pattern.specs.Faults.{valueFault}
 use Rattle.pattern.specs.Table.{bytesAt, variables, env, numberOf, valuesOf as heldValues}
 use Rattle.pattern.proofs.Laws.{number-le, number-set}
 use Rattle.variables.specs.declared.Variables as code
+use Rattle.faults.proofs.Laws.{empty-yes, empty-no}
 use Rattle.preamble.specs.declared.Opened.{Opened}
 use Rattle.preamble.specs.declared.ValuesRead.{ValuesRead}
 use Rattle.preamble.specs.declared.PreambleRead.{PreambleRead}
@@ -249,14 +250,6 @@ module _ (vs : List Variable) (s : List ℕ) (at : ℕ) where
           go : (x : Reading Values) → (x >>= λ more. Read (record { values = t .content ∷ more .values; next = more .next })) ≡ after (t .content ∷ []) x
           go (Read v) = refl
           go (Refused n p) = refl
-
-empty-yes : (s : List ℕ) → length s ≡ 0 → isEmpty s ≡ true
-empty-yes [] e = refl
-empty-yes (b ∷ s) e = absurd (omega arith)
-
-empty-no : (s : List ℕ) → (length s ≡ 0 → ⊥) → isEmpty s ≡ false
-empty-no [] e = absurd (e refl)
-empty-no (b ∷ s) e = refl
 
 pub fault-room : (left : ℕ) (vs : List Variable) (s : List ℕ) → nextFault left vs s ≡ 0 → 0 < left
 unfolding nextFault
