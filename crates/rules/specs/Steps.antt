@@ -1,5 +1,5 @@
 -- Reading rules one at a time.
-use Prim.Native.Nat.{ℕ, _+_}
+use Prim.Native.Nat.{ℕ, zero, suc, _+_}
 use mathlib.Core.List.{List, [], _∷_}
 use mathlib.Core.Bool.{true, false}
 use lib.ListN.{length}
@@ -7,7 +7,7 @@ use Rattle.scan.specs.Bytes.{bytes}
 use Rattle.text.specs.Reading.{Reading, Read, Refused, _>>=_}
 use Rattle.text.specs.Tokens.{Token, standing, standsAt}
 use Rattle.pattern.specs.Expansions.{Variable}
-use Rattle.rule.specs.Rules.{Qualifiers, RuleRead, RulesRead, Permissions, commaAt, patternAt, qualifiersAt, ruleFrom, targetAt}
+use Rattle.rule.specs.Rules.{Rule, Qualifiers, RuleRead, RulesRead, Permissions, commaAt, patternAt, qualifiersAt, ruleFrom, targetAt}
 
 -- a rule, by what follows its PERMS
 unfoldable pub ruleEnd : List ℕ → Qualifiers → Token → Permissions → Reading RuleRead
@@ -33,6 +33,16 @@ ruleAt vs s at =
         r ← ruleFrom vs s (qualifiersAt s at) t
         Read (More r)
     ]
+
+-- the first k rules from a place on, one at a time: fewer where the profile ends or a refusal stands there
+abbrev pub ruleThen : (RuleRead → List Rule) → Reading Step → List Rule
+ruleThen f (Read (More r)) = r .rule ∷ f r
+ruleThen f (Read (Close n)) = []
+ruleThen f (Refused n p) = []
+
+unfoldable pub rulesFrom : (k : ℕ) → List Variable → List ℕ → ℕ → List Rule
+rulesFrom zero vs s at = []
+rulesFrom (suc k) vs s at = ruleThen (λ r. rulesFrom k vs s (r .next)) (ruleAt vs s at)
 
 -- where no more rule is allowed: the }, or "9 for being one rule too many"
 unfoldable pub endAt : List ℕ → ℕ → Reading ℕ

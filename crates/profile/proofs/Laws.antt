@@ -1,0 +1,420 @@
+-- What the definitions of profiles say, by what stands first, and what a store changes in the table of profiles.
+use Prim.Native.Nat.{ℕ, zero, suc, _+_, _*_, _-_, _≤_, _<_}
+use mathlib.Core.Path.{_≡_, refl, ap, ap₂, sym, _∙_}
+use mathlib.Core.List.{List, [], _∷_, _++_, append-assoc, append-nil}
+use mathlib.Core.Bool.{Bool, true, false}
+use lib.ListN.{length, getD, set, length-set}
+use lib.Seq.{getD-set-same, getD-set-other}
+use lib.Dec.{leb}
+use native.Mathlib.Numerals.{add-one}
+use native.Mathlib.Omega.{arith}
+use borrow.Author.Tests.{le-leb, leb-false, lt-leb}
+use Rattle.scan.specs.Bytes.{bytes, same, some, span}
+use Rattle.text.specs.Reading.{Reading, Read, Refused, _>>=_, refuseIf, lineOf}
+use Rattle.text.specs.Tokens.{Token, noStop, standing, tokenAt}
+use Rattle.text.specs.Words.{firstWord, notTaken}
+use Rattle.text.specs.declared.Place.{Place}
+use Rattle.pattern.specs.Expansions.{Variable}
+use Rattle.pattern.specs.Table.{bytesAt}
+use Rattle.rule.specs.Rules.{RuleRead, RulesRead, ifWord, rulesAt}
+use Rattle.rule.specs.Places.{spanOf}
+use Rattle.rule.specs.declared.Span.{Span}
+use Rattle.rules.specs.Steps.{Step, More, Close, Counted, counted, endAt, followed, noRules, ruleAt, rulesFrom}
+use Rattle.rules.proofs.Laws.{onward, rules-by, rules-end}
+use Rattle.variables.specs.declared.Variables.{Variables}
+use Rattle.preamble.specs.Variables.{finalSets}
+use Rattle.preamble.specs.Preamble.{Preamble, preambleAt}
+use Rattle.preamble.specs.Places.{State, held, preambleOf, seenPreamble}
+use Rattle.preamble.specs.declared.PreambleRead.{PreambleRead}
+use Rattle.preamble.proofs.Laws.{preamble-sets}
+use Rattle.profile.specs.Profiles.{Profile, Head, ends, fileOf, headAt, nameAt, profilesAt}
+use Rattle.profile.specs.Places.{Judged, Accepted, Rejected, OneMore, OneProfile, judgedOf, nameFrom, namesOf, oneProfile, profileAt, profileOf, profilesFrom, profilesOf, seenFile, seenProfiles}
+use Rattle.profile.specs.declared.Profiles.{Profiles}
+use Rattle.profile.specs.declared.ProfilesRead.{ProfilesRead}
+use Rattle.profile.specs.declared.FileRead.{FileRead}
+
+-- ---- heads
+
+-- a name after the word profile
+pub name-word : (s : List ℕ) (at n : ℕ) → ifWord (bytes "profile") at (tokenAt noStop s at) ≡ record { found = true; next = n } → nameAt s at ≡ nameFrom false s n
+unfolding nameAt nameFrom
+name-word s at n e = rw (e, nameAt) (rw e)
+
+-- the profile looked at has the name, or has not; none is left
+module _ (text t name : List ℕ) where
+  pub names-hit : (i : ℕ) → 0 < i → same name (bytesAt text t (4 * (i - 1))) ≡ true → some (same name) (namesOf text t i) ≡ true
+  unfolding some namesOf
+  names-hit zero h e = absurd (omega arith)
+  names-hit (suc i) h e = let k : suc i - 1 ≡ i = omega arith in rw (rw k at e, some)
+
+  pub names-miss : (i : ℕ) → 0 < i → same name (bytesAt text t (4 * (i - 1))) ≡ false →
+      some (same name) (namesOf text t i) ≡ some (same name) (namesOf text t (i - 1))
+  unfolding some namesOf
+  names-miss zero h e = absurd (omega arith)
+  names-miss (suc i) h e = let k : suc i - 1 ≡ i = omega arith in rw (k, rw k at e, some)
+
+  pub names-none : (i : ℕ) → i ≤ 0 → some (same name) (namesOf text t i) ≡ false
+  unfolding some namesOf
+  names-none zero h = refl
+  names-none (suc i) h = absurd (omega arith)
+
+-- where no more profile is allowed, no head is read
+head-full : (used : List (List ℕ)) (s : List ℕ) (at : ℕ) {h : Head} → headAt true used s at ≡ Read h → ⊥
+unfolding headAt
+head-full used s at {h} e = go (refuseIf (firstWord notTaken s at) 5 (standing s at)) (nameAt s at) e
+  where
+    go : (x : Reading (Unit {0})) (y : Reading Token) → (x >>= λ _. y >>= λ t. _>>=_ {A = Head} (Refused 9 (t .start)) Read) ≡ Read h → ⊥
+    go (Read u) (Read t) q = let z : _≡_ {A = ℕ} 0 1 = cc in omega arith
+    go (Read u) (Refused n p) q = let z : _≡_ {A = ℕ} 0 1 = cc in omega arith
+    go (Refused n p) y q = let z : _≡_ {A = ℕ} 0 1 = cc in omega arith
+
+-- ---- rules read again, one at a time
+
+-- as many as were read, which are no more than allowed
+abbrev Again : (left : ℕ) → List Variable → List ℕ → ℕ → RulesRead → Type 0
+Again left vs s at rs = (rulesFrom (length (rs .rules)) vs s at ≡ rs .rules) × (length (rs .rules) ≤ left)
+
+rules-again : (left : ℕ) (vs : List Variable) (s : List ℕ) (at : ℕ) (rs : RulesRead) → rulesAt left vs s at ≡ Read rs → Again left vs s at rs
+unfolding rulesFrom
+rules-again zero vs s at rs e = go (endAt s at) (sym (rules-end vs s at) ∙ e)
+  where
+    go : (x : Reading ℕ) → (x >>= λ n. Read (noRules n)) ≡ Read rs → Again 0 vs s at rs
+    go (Read n) q = let k : rs ≡ noRules n = cc in rw k (refl, omega arith)
+    go (Refused n p) q = let z : _≡_ {A = ℕ} 0 1 = cc in absurd (omega arith)
+rules-again (suc left) vs s at rs e = go (λ r. rules-again left vs s (r .next)) (ruleAt vs s at) refl (sym (rules-by vs s at left) ∙ e)
+  where
+    more : (r : RuleRead) → ((m : RulesRead) → rulesAt left vs s (r .next) ≡ Read m → Again left vs s (r .next) m) → ruleAt vs s at ≡ Read (More r) →
+        (y : Reading RulesRead) → rulesAt left vs s (r .next) ≡ y → followed r y ≡ Read rs → Again (suc left) vs s at rs
+    more r i f (Read m) g q =
+        let k : rs ≡ record { rules = r .rule ∷ m .rules; next = m .next } = cc in
+        rw k (rw (f, i m g .0), omega (arith, i m g .1))
+    more r i f (Refused n p) g q = let z : _≡_ {A = ℕ} 0 1 = cc in absurd (omega arith)
+
+    go : ((r : RuleRead) (m : RulesRead) → rulesAt left vs s (r .next) ≡ Read m → Again left vs s (r .next) m) →
+        (x : Reading Step) → ruleAt vs s at ≡ x → (x >>= onward vs s at left) ≡ Read rs → Again (suc left) vs s at rs
+    go i (Read (More r)) f q = more r (i r) f (rulesAt left vs s (r .next)) refl q
+    go i (Read (Close n)) f q = let k : rs ≡ noRules n = cc in rw k (refl, omega arith)
+    go i (Refused n p) f q = let z : _≡_ {A = ℕ} 0 1 = cc in absurd (omega arith)
+
+-- ---- one profile
+
+module _ (full : Bool) (left : ℕ) (used : List (List ℕ)) (vs : List Variable) (s : List ℕ) (at : ℕ) where
+  pub profile-refused : {n p : ℕ} → headAt full used s at ≡ Refused n p → profileAt full left used vs s at ≡ Refused n p
+  unfolding profileAt
+  profile-refused e = rw (e, profileAt)
+
+  module _ (h : Head) (e : headAt full used s at ≡ Read h) where
+    pub profile-rules-refused : {n p : ℕ} → counted (rulesAt left vs s (h .next)) ≡ Refused n p → profileAt full left used vs s at ≡ Refused n p
+    unfolding profileAt counted
+    profile-rules-refused {n} {p} f = rw (e, profileAt) (go (rulesAt left vs s (h .next)) f)
+      where
+        go : (x : Reading RulesRead) → counted x ≡ Refused n p → (x >>= λ rs. Read (oneProfile (h .name) rs)) ≡ Refused n p
+        go (Read rs) q = let z : _≡_ {A = ℕ} 0 1 = cc in absurd (omega arith)
+        go (Refused m r) q = cc
+
+    pub profile-good : {k n : ℕ} → counted (rulesAt left vs s (h .next)) ≡ Read (record { count = k; next = n }) →
+        profileAt full left used vs s at ≡ Read (record { profile = record { name = h .name; rules = rulesFrom k vs s (h .next) }; count = k; next = n })
+    unfolding profileAt counted
+    profile-good {k} {n} f = rw (e, profileAt) (go (rulesAt left vs s (h .next)) refl f)
+      where
+        go : (x : Reading RulesRead) → rulesAt left vs s (h .next) ≡ x → counted x ≡ Read (record { count = k; next = n }) →
+            (x >>= λ rs. Read (oneProfile (h .name) rs))
+            ≡ Read (record { profile = record { name = h .name; rules = rulesFrom k vs s (h .next) }; count = k; next = n })
+        go (Read rs) r q =
+            let c : _≡_ {A = Counted} (record { count = length (rs .rules); next = rs .next }) (record { count = k; next = n }) = cc in
+            let i : k ≡ length (rs .rules) = ap (λ (x : Counted). x .count) (sym c) in
+            let j : n ≡ rs .next = ap (λ (x : Counted). x .next) (sym c) in
+            rw (i, j, rules-again left vs s (h .next) rs r .0)
+        go (Refused m p) r q = let z : _≡_ {A = ℕ} 0 1 = cc in absurd (omega arith)
+
+  pub profile-left : {x : OneProfile} → profileAt full left used vs s at ≡ Read x → x .count ≤ left
+  unfolding profileAt
+  profile-left {x} e = go (headAt full used s at) e
+    where
+      rules : (h : Head) (y : Reading RulesRead) → rulesAt left vs s (h .next) ≡ y → (y >>= λ rs. Read (oneProfile (h .name) rs)) ≡ Read x → x .count ≤ left
+      rules h (Read rs) f q = let k : x ≡ oneProfile (h .name) rs = cc in rw k (rules-again left vs s (h .next) rs f .1)
+      rules h (Refused n p) f q = let z : _≡_ {A = ℕ} 0 1 = cc in absurd (omega arith)
+
+      go : (y : Reading Head) → (y >>= λ h. rulesAt left vs s (h .next) >>= λ rs. Read (oneProfile (h .name) rs)) ≡ Read x → x .count ≤ left
+      go (Read h) q = rules h (rulesAt left vs s (h .next)) refl q
+      go (Refused n p) q = let z : _≡_ {A = ℕ} 0 1 = cc in absurd (omega arith)
+
+-- ---- all profiles, by what stands first
+
+-- profiles read before others
+unfoldable pub after : List Profile → Reading (List Profile) → Reading (List Profile)
+after ps (Read more) = Read (ps ++ more)
+after ps (Refused n p) = Refused n p
+
+after-none : (x : Reading (List Profile)) → after [] x ≡ x
+unfolding after
+after-none (Read ps) = refl
+after-none (Refused n p) = refl
+
+-- a profile and those that follow it
+abbrev joined : Profile → Reading (List Profile) → Reading (List Profile)
+joined p x = x >>= λ more. Read (p ∷ more)
+
+after-one : (ps : List Profile) (p : Profile) (x : Reading (List Profile)) → after ps (joined p x) ≡ after (ps ++ (p ∷ [])) x
+unfolding after
+after-one ps p (Read more) = ap Read (sym (append-assoc ps (p ∷ []) more))
+after-one ps p (Refused n q) = refl
+
+module _ (rulesLeft : ℕ) (used : List (List ℕ)) (vs : List Variable) (s : List ℕ) (at : ℕ) where
+  profiles-end : (left : ℕ) → ends (tokenAt noStop s at) ≡ true → profilesAt left rulesLeft used vs s at ≡ Read []
+  unfolding profilesAt
+  profiles-end zero e = rw (e, profilesAt)
+  profiles-end (suc left) e = rw (e, profilesAt)
+
+  module _ (e : ends (tokenAt noStop s at) ≡ false) where
+    abbrev onward-from : (left : ℕ) → OneProfile → Reading (List Profile)
+    onward-from left x = joined (x .profile) (profilesAt left (rulesLeft - x .count) (x .profile .name ∷ used) vs s (x .next))
+
+    profiles-by : (left : ℕ) → profilesAt (suc left) rulesLeft used vs s at ≡ (profileAt false rulesLeft used vs s at >>= onward-from left)
+    unfolding profilesAt profileAt
+    profiles-by left = rw (e, profilesAt) (go (headAt false used s at))
+      where
+        rules : (h : Head) (y : Reading RulesRead) →
+            (y >>= λ rs. joined (record { name = h .name; rules = rs .rules }) (profilesAt left (rulesLeft - length (rs .rules)) (h .name ∷ used) vs s (rs .next)))
+            ≡ ((y >>= λ rs. Read (oneProfile (h .name) rs)) >>= onward-from left)
+        rules h (Read rs) = refl
+        rules h (Refused n p) = refl
+
+        go : (x : Reading Head) →
+            (x >>= λ h. rulesAt rulesLeft vs s (h .next) >>= λ rs.
+            joined (record { name = h .name; rules = rs .rules }) (profilesAt left (rulesLeft - length (rs .rules)) (h .name ∷ used) vs s (rs .next)))
+            ≡ ((x >>= λ h. rulesAt rulesLeft vs s (h .next) >>= λ rs. Read (oneProfile (h .name) rs)) >>= onward-from left)
+        go (Read h) = rules h (rulesAt rulesLeft vs s (h .next))
+        go (Refused n p) = refl
+
+    profiles-full : {n p : ℕ} → profileAt true rulesLeft used vs s at ≡ Refused n p → profilesAt zero rulesLeft used vs s at ≡ Refused n p
+    unfolding profilesAt profileAt
+    profiles-full {n} {p} f = rw (e, profilesAt) (go (headAt true used s at) refl f)
+      where
+        go : (x : Reading Head) → headAt true used s at ≡ x →
+            (x >>= λ h. rulesAt rulesLeft vs s (h .next) >>= λ rs. Read (oneProfile (h .name) rs)) ≡ Refused n p →
+            (x >>= λ h. _>>=_ {A = List Profile} (Read []) Read) ≡ Refused n p
+        go (Read h) r q = absurd (head-full used s at r)
+        go (Refused m o) r q = cc
+
+  profile-full : {x : OneProfile} → profileAt true rulesLeft used vs s at ≡ Read x → ⊥
+  unfolding profileAt
+  profile-full {x} f = go (headAt true used s at) refl f
+    where
+      go : (y : Reading Head) → headAt true used s at ≡ y → (y >>= λ h. rulesAt rulesLeft vs s (h .next) >>= λ rs. Read (oneProfile (h .name) rs)) ≡ Read x → ⊥
+      go (Read h) r q = head-full used s at r
+      go (Refused n p) r q = let z : _≡_ {A = ℕ} 0 1 = cc in omega arith
+
+-- ---- where n profiles are known
+
+-- the profiles of a table, and those read from a place on
+abbrev pub readFrom : List Variable → List ℕ → Profiles → (rulesLeft at : ℕ) → Reading (List Profile)
+readFrom vs s p rulesLeft at =
+    after (profilesFrom vs s (p .table) (p .count) 0) (profilesAt (32 - p .count) rulesLeft (namesOf s (p .table) (p .count)) vs s at)
+
+-- the profile at a place, where those of a table are known
+abbrev pub nextOf : List Variable → List ℕ → Profiles → (rulesLeft at : ℕ) → Reading OneProfile
+nextOf vs s p rulesLeft at = profileAt (leb 32 (p .count)) rulesLeft (namesOf s (p .table) (p .count)) vs s at
+
+module _ (vs : List Variable) (s : List ℕ) (p : Profiles) (left at : ℕ) where
+  pub read-none : p .count ≡ 0 → readFrom vs s p left at ≡ profilesAt 32 left [] vs s at
+  unfolding profilesFrom namesOf
+  read-none e =
+      ap (λ (n : ℕ). after (profilesFrom vs s (p .table) n 0) (profilesAt (32 - n) left (namesOf s (p .table) n) vs s at)) e
+      ∙ after-none (profilesAt 32 left [] vs s at)
+
+  pub read-end : ends (tokenAt noStop s at) ≡ true → readFrom vs s p left at ≡ Read (profilesFrom vs s (p .table) (p .count) 0)
+  unfolding after
+  read-end e =
+      ap (after (profilesFrom vs s (p .table) (p .count) 0)) (profiles-end left (namesOf s (p .table) (p .count)) vs s at (32 - p .count) e)
+      ∙ ap Read (append-nil (profilesFrom vs s (p .table) (p .count) 0))
+
+  module _ (low : p .count ≤ 32) where
+    pub read-room : {x : OneProfile} → nextOf vs s p left at ≡ Read x → p .count < 32
+    read-room {x} e = go (leb 32 (p .count)) refl
+      where
+        go : (b : Bool) → leb 32 (p .count) ≡ b → p .count < 32
+        go true q = absurd (profile-full left (namesOf s (p .table) (p .count)) vs s at (rw q at e))
+        go false q = leb-false _ _ q
+
+    module _ (e : ends (tokenAt noStop s at) ≡ false) where
+      pub read-refused : {n q : ℕ} → nextOf vs s p left at ≡ Refused n q → readFrom vs s p left at ≡ Refused n q
+      unfolding after
+      read-refused {n} {q} f =
+          ap (after (profilesFrom vs s (p .table) (p .count) 0)) (go (32 - p .count) refl)
+        where
+          go : (m : ℕ) → 32 - p .count ≡ m → profilesAt (32 - p .count) left (namesOf s (p .table) (p .count)) vs s at ≡ Refused n q
+          go zero k = rw k (profiles-full left (namesOf s (p .table) (p .count)) vs s at e (rw (le-leb 32 (p .count) (omega arith)) at f))
+          go (suc m) k = rw k (profiles-by left (namesOf s (p .table) (p .count)) vs s at e m ∙ rw (rw (lt-leb 32 (p .count) (omega arith)) at f))
+
+      -- one profile more
+      pub read-more : {name : Span} {rules : Place} {k n : ℕ} {new : Profiles} → OneMore p name rules k new →
+          nextOf vs s p left at ≡ Read (record { profile = record { name = spanOf s name; rules = rulesFrom k vs s (rules .0) }; count = k; next = n }) →
+          readFrom vs s p left at ≡ readFrom vs s new (left - k) n
+      read-more {name} {rules} {k} {n} {new} w f =
+          let x : Profile = record { name = spanOf s name; rules = rulesFrom k vs s (rules .0) } in
+          let ps : List Profile = profilesFrom vs s (p .table) (p .count) 0 in
+          let used : List (List ℕ) = namesOf s (p .table) (p .count) in
+          let room : p .count < 32 = read-room f in
+          let a : 32 - p .count ≡ suc (32 - new .count) = omega (arith, w .count) in
+          let b : leb 32 (p .count) ≡ false = lt-leb 32 (p .count) room in
+          ap (λ (m : ℕ). after ps (profilesAt m left used vs s at)) a
+          ∙ ap (after ps) (profiles-by left used vs s at e (32 - new .count) ∙ rw (rw b at f))
+          ∙ after-one ps x (profilesAt (32 - new .count) (left - k) (spanOf s name ∷ used) vs s n)
+          ∙ ap₂ (λ (l : List Profile) (u : List (List ℕ)). after l (profilesAt (32 - new .count) (left - k) u vs s n)) (sym (w .last vs s)) (sym (w .names s))
+
+-- ---- a profile stored
+
+-- one profile more at the end
+profiles-last : (vs : List Variable) (s t : List ℕ) (k i : ℕ) → profilesFrom vs s t (suc k) i ≡ profilesFrom vs s t k i ++ (profileOf vs s t (i + k) ∷ [])
+unfolding profilesFrom
+profiles-last vs s t zero i = let e : i + 0 ≡ i = omega arith in rw e
+profiles-last vs s t (suc k) i =
+    let e : i + 1 + k ≡ i + suc k = omega arith in
+    ap (λ (l : List Profile). profileOf vs s t i ∷ l) (profiles-last vs s t k (i + 1) ∙ rw e)
+
+module _ (t : List ℕ) (i a e r k : ℕ) where
+  abbrev one : List ℕ
+  one = set t (4 * i) a
+
+  abbrev two : List ℕ
+  two = set one (4 * i + 1) e
+
+  abbrev three : List ℕ
+  three = set two (4 * i + 2) r
+
+  abbrev stored : List ℕ
+  stored = set three (4 * i + 3) k
+
+  -- the profiles before it are as they were
+  kept : (m : ℕ) → m < 4 * i → getD stored m 0 ≡ getD t m 0
+  kept m h =
+      let p : m ≡ 4 * i → ⊥ = λ q. omega arith in
+      let p1 : m ≡ 4 * i + 1 → ⊥ = λ q. omega arith in
+      let p2 : m ≡ 4 * i + 2 → ⊥ = λ q. omega arith in
+      let p3 : m ≡ 4 * i + 3 → ⊥ = λ q. omega arith in
+      rw (getD-set-other, getD-set-other, getD-set-other, getD-set-other)
+
+  module _ (s : List ℕ) where
+    bytes-kept : (m : ℕ) → m + 1 < 4 * i → bytesAt s stored m ≡ bytesAt s t m
+    bytes-kept m h = ap₂ (λ (x y : ℕ). span s x y) (kept m (omega arith)) (kept (m + 1) h)
+
+    names-kept : (n : ℕ) → n ≤ i → namesOf s stored n ≡ namesOf s t n
+    unfolding namesOf
+    names-kept zero h = refl
+    names-kept (suc n) h = ap₂ _∷_ (bytes-kept (4 * n) (omega arith)) (names-kept n (omega arith))
+
+    profiles-kept : (vs : List Variable) (n j : ℕ) → j + n ≤ i → profilesFrom vs s stored n j ≡ profilesFrom vs s t n j
+    unfolding profilesFrom
+    profiles-kept vs zero j h = refl
+    profiles-kept vs (suc n) j h =
+        ap₂ _∷_
+        (rw (bytes-kept (4 * j) (omega arith), kept (4 * j + 2) (omega arith), kept (4 * j + 3) (omega arith)))
+        (profiles-kept vs n (j + 1) (omega arith))
+
+  -- and it is there
+  module _ (size : length t ≡ 128) (h : i < 32) where
+    first : getD stored (4 * i) 0 ≡ a
+    first =
+        let p1 : 4 * i ≡ 4 * i + 1 → ⊥ = λ q. omega arith in
+        let p2 : 4 * i ≡ 4 * i + 2 → ⊥ = λ q. omega arith in
+        let p3 : 4 * i ≡ 4 * i + 3 → ⊥ = λ q. omega arith in
+        rw (getD-set-other, getD-set-other, getD-set-other) (getD-set-same t (4 * i) a 0 (omega arith))
+
+    second : getD stored (4 * i + 1) 0 ≡ e
+    second =
+        let p2 : 4 * i + 1 ≡ 4 * i + 2 → ⊥ = λ q. omega arith in
+        let p3 : 4 * i + 1 ≡ 4 * i + 3 → ⊥ = λ q. omega arith in
+        rw (getD-set-other, getD-set-other) (getD-set-same one (4 * i + 1) e 0 (simp length-set (omega arith)))
+
+    third : getD stored (4 * i + 2) 0 ≡ r
+    third =
+        let p3 : 4 * i + 2 ≡ 4 * i + 3 → ⊥ = λ q. omega arith in
+        rw getD-set-other (getD-set-same two (4 * i + 2) r 0 (simp length-set (omega arith)))
+
+    fourth : getD stored (4 * i + 3) 0 ≡ k
+    fourth = getD-set-same three (4 * i + 3) k 0 (simp length-set (omega arith))
+
+pub one-more : (p : Profiles) (name : Span) (rules : Place) (k : ℕ) → length (p .table) ≡ 128 → p .count < 32 →
+    OneMore p name rules k (record { table = stored (p .table) (p .count) (name .from .0) (name .end .0) (rules .0) k; count = p .count + 1 })
+unfolding namesOf
+one-more p name rules k size h =
+    let t : List ℕ = p .table in
+    let i : ℕ = p .count in
+    let a : ℕ = name .from .0 in
+    let e : ℕ = name .end .0 in
+    let r : ℕ = rules .0 in
+    let new : List ℕ = stored t i a e r k in
+    let z : 0 + i ≡ i = omega arith in
+    record {
+      count = refl;
+      names = λ s.
+          ap (namesOf s new) (add-one i)
+          ∙ ap₂ _∷_
+          (ap₂ (λ (x y : ℕ). span s x y) (first t i a e r k size h) (second t i a e r k size h))
+          (names-kept t i a e r k s i (omega arith));
+      last = λ vs s.
+          ap (λ (n : ℕ). profilesFrom vs s new n 0) (add-one i)
+          ∙ profiles-last vs s new i 0
+          ∙ ap₂ (λ (l : List Profile) (x : Profile). l ++ (x ∷ []))
+          (profiles-kept t i a e r k s vs i 0 (omega arith))
+          (rw (z, first t i a e r k size h, second t i a e r k size h, third t i a e r k size h, fourth t i a e r k size h));
+    }
+
+-- ---- the whole text
+
+-- the variables that were read
+held-read : (s : List ℕ) (p : PreambleRead) (x : State) → seenPreamble s p ≡ Read x → held s (p .vars) ≡ x .variables
+unfolding seenPreamble
+held-read s p x e = go (p .refused) refl e
+  where
+    go : (b : Bool) → p .refused ≡ b → seenPreamble s p ≡ Read x → held s (p .vars) ≡ x .variables
+    go true q f = let h = (rw (q, seenPreamble) at f) in let z : _≡_ {A = ℕ} 0 1 = cc in absurd (omega arith)
+    go false q f =
+        let h = (rw (q, seenPreamble) at f) in
+        let j : _≡_ {A = State} (record { variables = held s (p .vars); next = p .next .0 }) x = cc in
+        ap (λ (y : State). y .variables) j
+
+-- the profiles under these variables, or the refusal, with its line
+unfoldable judgedBy : List Variable → List ℕ → Reading (List Profile) → Judged
+judgedBy vs s (Read ps) = Accepted vs ps
+judgedBy vs s (Refused n p) = Rejected n (lineOf s p)
+
+-- as the code tells it
+seen-judged : (s : List ℕ) (r : FileRead) (ps : ProfilesRead) → r .refused ≡ ps .refused → r .refusal .number ≡ ps .stop .number →
+    r .refusal .line ≡ lineOf s (ps .stop .place .0) → r .profiles ≡ ps .profiles →
+    seenFile s r ≡ judgedBy (held s (r .vars)) s (seenProfiles (held s (r .vars)) s ps)
+unfolding seenFile seenProfiles judgedBy
+seen-judged s r ps a b c d = go (ps .refused) refl
+  where
+    go : (x : Bool) → ps .refused ≡ x → seenFile s r ≡ judgedBy (held s (r .vars)) s (seenProfiles (held s (r .vars)) s ps)
+    go true q = rw (a, q, b, c, seenFile)
+    go false q = rw (a, q, d, seenFile)
+
+-- as the definition tells it
+file-judged : (s : List ℕ) (vs : List Variable) → ((p : Preamble) → preambleAt 512 [] s 0 ≡ Read p → vs ≡ p .variables) →
+    judgedBy vs s (profilesOf s (preambleOf (preambleAt 512 [] s 0))) ≡ judgedOf s (fileOf s)
+unfolding judgedBy judgedOf fileOf profilesOf preambleOf
+file-judged s vs f = go (preambleAt 512 [] s 0) refl
+  where
+    profiles : (p : Preamble) → vs ≡ finalSets [] (p .assignments) → (y : Reading (List Profile)) →
+        judgedBy vs s y ≡ judgedOf s (y >>= λ ps. Read (record { preamble = p .assignments; profiles = ps }))
+    profiles p e (Read ps) = ap (λ (l : List Variable). Accepted l ps) e
+    profiles p e (Refused n q) = refl
+
+    go : (x : Reading Preamble) → preambleAt 512 [] s 0 ≡ x →
+        judgedBy vs s (profilesOf s (preambleOf x))
+        ≡ judgedOf s (x >>= λ p. profilesAt 32 512 [] (p .variables) s (p .next) >>= λ ps. Read (record { preamble = p .assignments; profiles = ps }))
+    go (Read p) e = profiles p (f p e ∙ preamble-sets 512 [] s 0 p e) (profilesAt 32 512 [] (p .variables) s (p .next))
+    go (Refused n q) e = refl
+
+pub file-read : (s : List ℕ) (p : PreambleRead) (ps : ProfilesRead) (r : FileRead) →
+    seenPreamble s p ≡ preambleOf (preambleAt 512 [] s 0) → seenProfiles (held s (p .vars)) s ps ≡ profilesOf s (seenPreamble s p) →
+    r .vars ≡ p .vars → r .refused ≡ ps .refused → r .refusal .number ≡ ps .stop .number →
+    r .refusal .line ≡ lineOf s (ps .stop .place .0) → r .profiles ≡ ps .profiles → seenFile s r ≡ judgedOf s (fileOf s)
+unfolding preambleOf
+file-read s p ps r e f v a b c d =
+    seen-judged s r ps a b c d
+    ∙ ap (λ (u : Variables). judgedBy (held s u) s (seenProfiles (held s u) s ps)) v
+    ∙ ap (judgedBy (held s (p .vars)) s) (f ∙ ap (profilesOf s) e)
+    ∙ file-judged s (held s (p .vars)) (λ q g. held-read s p (record { variables = q .variables; next = q .next }) (e ∙ ap preambleOf g))

@@ -1,0 +1,31 @@
+use denote.Ref.{now}
+use native.Mathlib.Omega.{arith}
+use mathlib.Core.Path.{sym, ap, _∙_}
+use Rattle.preamble.proofs.Laws.{seen-read, seen-refused}
+use Rattle.profile.specs.Places.{profilesOf, seenProfiles}
+use borrow.Author.Needs.{needs}
+use Rattle.profile.proofs.profiles_of.Statement.{statement}
+use Rattle.profile.proofs.profiles_of.Tie as tie
+
+no-profiles-requires : tie.Need-no-profiles-requires
+no-profiles-requires c κs = search needs
+
+returns : tie.Need-returns
+unfolding profilesOf seenProfiles
+returns c = (
+  sym (ap (profilesOf (now (c .before .before .before .before .before .before .args .text))) (seen-refused (now (c .before .before .before .before .before .before .args .text)) (c .before .before .before .before .before .before .args .p) (c .before .if1 .taken))),
+  omega (arith, c .no-profiles .ensures),
+)
+
+profiles-at-requires : tie.Need-profiles-at-requires
+profiles-at-requires c κs = search needs
+
+returns-2 : tie.Need-returns-2
+unfolding profilesOf
+returns-2 c = (
+  c .profiles-at .ensures .0 ∙ sym (ap (profilesOf (now (c .before .before .before .before .before .before .before .before .args .text))) (seen-read (now (c .before .before .before .before .before .before .before .before .args .text)) (c .before .before .before .before .before .before .before .before .args .p) (c .before .before .before .if1 .left))),
+  c .profiles-at .ensures .1,
+)
+
+pub profiles-of-spec : {M : Type 1} → statement M
+profiles-of-spec = tie.close (tie.spec no-profiles-requires returns profiles-at-requires returns-2)

@@ -1,0 +1,26 @@
+use denote.Ref.{now}
+use mathlib.Core.Path.{refl}
+use Rattle.profile.proofs.Laws.{file-read}
+use borrow.Author.Needs.{needs}
+use Rattle.profile.proofs.read.Statement.{statement}
+use Rattle.profile.proofs.read.Tie as tie
+
+preamble-at-requires : tie.Need-preamble-at-requires
+preamble-at-requires c κs = search needs
+
+sizes-of-requires : tie.Need-sizes-of-requires
+sizes-of-requires c κs = search needs
+
+profiles-of-requires : tie.Need-profiles-of-requires
+profiles-of-requires c κs = search needs
+
+line-of-requires : tie.Need-line-of-requires
+line-of-requires c κs = search needs
+
+returns : tie.Need-returns
+returns c = (file-read (now (c .before .before .before .before .before .before .before .before .before .before .args .text)) (c .before .before .before .before .before .before .before .before .preamble-at .result) (c .before .before .before .profiles-of .result) _ (c .before .before .before .before .before .before .before .before .preamble-at .ensures) (c .before .before .before .profiles-of .ensures .0) refl refl refl (c .line-of .ensures) refl, (c .before .before .before .before .sizes-of .ensures, c .before .before .before .profiles-of .ensures .1))
+
+pub read-spec : {M : Type 1} → statement M
+read-spec =
+    tie.close
+    (tie.spec preamble-at-requires sizes-of-requires profiles-of-requires line-of-requires returns)

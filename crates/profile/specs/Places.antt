@@ -1,0 +1,130 @@
+-- The table of profiles, as numbers, and what the code's values mean over the text: profile i has the places of its name at 4 * i,
+-- the place where its rules start at 4 * i + 2, and their number at 4 * i + 3.
+use Prim.Native.Nat.{ℕ, zero, suc, _+_, _*_}
+use Prim.Native.Char.{code}
+use mathlib.Core.Bool.{Bool, not, _||_, _&&_}
+use mathlib.Core.Path.{_≡_}
+use mathlib.Core.List.{List, [], _∷_, _++_}
+use lib.ListN.{length, getD}
+use lib.Dec.{ltb}
+use Rattle.scan.specs.Bytes.{begins, same, some, if_then_else_}
+use Rattle.text.specs.Reading.{Reading, Read, Refused, _>>=_, refuseIf, lineOf}
+use Rattle.text.specs.Places.{refusedBy}
+use Rattle.text.specs.Tokens.{Token, tokenAt, wanted}
+use Rattle.text.specs.declared.Place.{Place}
+use Rattle.pattern.specs.Expansions.{Variable}
+use Rattle.pattern.specs.Table.{bytesAt}
+use Rattle.rule.specs.Names.{nameForm}
+use Rattle.rule.specs.Rules.{RulesRead, rulesAt}
+use Rattle.rule.specs.Places.{spanOf}
+use Rattle.rule.specs.declared.Span.{Span}
+use Rattle.rules.specs.Steps.{rulesFrom}
+use Rattle.preamble.specs.Variables.{finalSets}
+use Rattle.preamble.specs.Places.{State, held}
+use Rattle.profile.specs.Profiles.{Profile, File, Head, brace, headAt, openAt, profilesAt}
+use Rattle.profile.specs.declared.Profiles.{Profiles}
+use Rattle.profile.specs.declared.OpenRead.{OpenRead}
+use Rattle.profile.specs.declared.OpenRead.the-variants as brace-read
+use Rattle.profile.specs.declared.HeadRead.{HeadRead}
+use Rattle.profile.specs.declared.HeadRead.the-variants as head
+use Rattle.profile.specs.declared.ProfileRead.{ProfileRead}
+use Rattle.profile.specs.declared.ProfileRead.the-variants as profile-read
+use Rattle.profile.specs.declared.ProfilesRead.{ProfilesRead}
+use Rattle.profile.specs.declared.FileRead.{FileRead}
+
+-- ---- heads
+
+-- the name at a place, a token that ends at a blank or {; rooted says that it must begin with /
+unfoldable pub nameFrom : (rooted : Bool) → List ℕ → ℕ → Reading Token
+nameFrom rooted s at = do
+  t ← wanted s (tokenAt brace s at)
+  _ ← refuseIf (not ((not rooted || begins (code "/") (t .content)) && nameForm (t .quoted) (t .content))) 4 (t .start)
+  Read t
+
+-- a head, by the token of its name
+unfoldable pub headFrom : (full : Bool) → (used : List (List ℕ)) → List ℕ → Token → Reading Head
+headFrom full used s t = do
+  _ ← refuseIf (full || ltb 255 (length (t .content))) 9 (t .start)
+  _ ← refuseIf (some (same (t .content)) used) 10 (t .start)
+  next ← openAt s (t .next)
+  Read (record { name = t .content; next = next })
+
+unfoldable pub seenOpen : OpenRead → Reading ℕ
+seenOpen (brace-read.Good n) = Read (n .0)
+seenOpen (brace-read.Refused stop) = refusedBy stop
+
+unfoldable pub seenHead : List ℕ → HeadRead → Reading Head
+seenHead s (head.Good name n) = Read (record { name = spanOf s name; next = n .0 })
+seenHead s (head.Refused stop) = refusedBy stop
+
+-- ---- the table
+
+-- the names of the first n profiles, the last one in front
+unfoldable pub namesOf : (text t : List ℕ) → ℕ → List (List ℕ)
+namesOf text t zero = []
+namesOf text t (suc i) = bytesAt text t (4 * i) ∷ namesOf text t i
+
+-- profile i
+abbrev pub profileOf : List Variable → (text t : List ℕ) → ℕ → Profile
+profileOf vs text t i =
+    record { name = bytesAt text t (4 * i); rules = rulesFrom (getD t (4 * i + 3) 0) vs text (getD t (4 * i + 2) 0) }
+
+-- k profiles from profile i on
+unfoldable pub profilesFrom : List Variable → (text t : List ℕ) → (k i : ℕ) → List Profile
+profilesFrom vs text t zero i = []
+profilesFrom vs text t (suc k) i = profileOf vs text t i ∷ profilesFrom vs text t k (i + 1)
+
+-- a new profile after the others, which are as they were
+pub record OneMore (old : Profiles) (name : Span) (rules : Place) (k : ℕ) (new : Profiles) : Type 0 where
+  pub count : new .count ≡ old .count + 1
+  pub names : (s : List ℕ) → namesOf s (new .table) (new .count) ≡ spanOf s name ∷ namesOf s (old .table) (old .count)
+  pub last : (vs : List Variable) (s : List ℕ) →
+      profilesFrom vs s (new .table) (new .count) 0
+      ≡ profilesFrom vs s (old .table) (old .count) 0 ++ (record { name = spanOf s name; rules = rulesFrom k vs s (rules .0) } ∷ [])
+
+-- ---- all profiles
+
+-- a profile, how many rules it has, and where reading goes on
+pub record OneProfile : Type 0 where
+  pub profile : Profile
+  pub count : ℕ
+  pub next : ℕ
+
+-- a profile and where its rules end
+abbrev pub oneProfile : (name : List ℕ) → RulesRead → OneProfile
+oneProfile n rs = record { profile = record { name = n; rules = rs .rules }; count = length (rs .rules); next = rs .next }
+
+-- the profile at a place, where so many more rules are allowed
+unfoldable pub profileAt : (full : Bool) → (rulesLeft : ℕ) → (used : List (List ℕ)) → List Variable → List ℕ → ℕ → Reading OneProfile
+profileAt full rulesLeft used vs s at = do
+  h ← headAt full used s at
+  rs ← rulesAt rulesLeft vs s (h .next)
+  Read (oneProfile (h .name) rs)
+
+unfoldable pub seenProfile : List Variable → List ℕ → ProfileRead → Reading OneProfile
+seenProfile vs s (profile-read.Good name rules k n) =
+    Read (record { profile = record { name = spanOf s name; rules = rulesFrom k vs s (rules .0) }; count = k; next = n .0 })
+seenProfile vs s (profile-read.Refused stop) = refusedBy stop
+
+unfoldable pub seenProfiles : List Variable → List ℕ → ProfilesRead → Reading (List Profile)
+seenProfiles vs s r = if r .refused then refusedBy (r .stop) else Read (profilesFrom vs s (r .profiles .table) (r .profiles .count) 0)
+
+-- ---- the whole text
+
+-- the profiles after the assignments
+unfoldable pub profilesOf : List ℕ → Reading State → Reading (List Profile)
+profilesOf s x = x >>= λ p. profilesAt 32 512 [] (p .variables) s (p .next)
+
+-- a text is accepted with its variables and its profiles, or refused with a number and a line
+pub data Judged : Type 0 where
+  Accepted : List Variable → List Profile → Judged
+  Rejected : (number line : ℕ) → Judged
+
+unfoldable pub judgedOf : List ℕ → Reading File → Judged
+judgedOf s (Read f) = Accepted (finalSets [] (f .preamble)) (f .profiles)
+judgedOf s (Refused n p) = Rejected n (lineOf s p)
+
+unfoldable pub seenFile : List ℕ → FileRead → Judged
+seenFile s r =
+    if r .refused then Rejected (r .refusal .number) (r .refusal .line)
+    else Accepted (held s (r .vars)) (profilesFrom (held s (r .vars)) s (r .profiles .table) (r .profiles .count) 0)
