@@ -1,2 +1,2 @@
-pub mod Findings
-pub mod Answers
+pub mod Decide
+pub mod Places

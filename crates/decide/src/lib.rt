@@ -1,25 +1,130 @@
-// The answer to a request.
-use perms::Execute;
+// The answer to a text, a profile name and a request.
+use answer::Answer;
+use answer::finish;
+use answer::refused;
+use findings::findings_of;
+use pattern::begins_at;
 use perms::Perms;
-use text::Refusal;
+use profile::FileRead;
+use profile::read;
+use text::Place;
+ghost use mathlib.Core.Path.{_≡_};
+ghost use Prim.Native.Nat.{_≤_};
+ghost use Rattle.sizes.specs.Sizes.{Known};
+ghost use Rattle.preamble.specs.Places.{held};
+ghost use Rattle.profile.specs.Places.{profilesFrom};
+ghost use Rattle.findings.specs.Weighed.{Fits};
+ghost use Rattle.decide.specs.Decide.{answerIn, answerOf, badAsked, badPath, doubled};
+ghost use Rattle.decide.specs.Places.{foundFrom};
 
-// The target of a transition: its bytes and how many they are; zero beyond them.
-pub struct Target {
-    pub bytes: [u8; 255],
-    pub len: usize,
+// The numbers of the refusals that are not the text's: too long a text, a bad path, a bad asked set, no such profile.
+const LONG_TEXT: u8 = 1;
+
+const BAD_PATH: u8 = 2;
+
+const BAD_ASKED: u8 = 3;
+
+const NO_PROFILE: u8 = 11;
+
+// Whether a slash follows a slash.
+fn is_doubled(path: &[u8]) -> bool
+    ensures { λ r. ⌜ r ≡ doubled (now (path .entry)) ⌝ }
+{
+    let mut i = 0;
+    while i < path.len() {
+        if (path[i] == b'/') & begins_at(path, i + 1, b'/') {
+            return true;
+        }
+        i += 1;
+    }
+    false
 }
 
-// Whether the request was refused, and why.
-pub enum Verdict {
-    Answered,
-    Refused(Refusal),
+// Whether a path is refused.
+fn is_bad_path(path: &[u8]) -> bool
+    ensures { λ r. ⌜ r ≡ badPath (now (path .entry)) ⌝ }
+{
+    if path.len() == 0 {
+        return true;
+    }
+    (4095 < path.len()) | (path[0] != b'/') | scan::holds_byte(path, 0) | is_doubled(path)
 }
 
-// The whole answer. A refusal grants and records nothing and names no target.
-pub struct Answer {
-    pub verdict: Verdict,
-    pub granted: Perms,
-    pub recorded: Perms,
-    pub execute: Execute,
-    pub target: Target,
+// Whether an asked set is refused.
+fn is_bad_asked(asked: Perms) -> bool
+    ensures { λ r. ⌜ r ≡ badAsked (asked .0) ⌝ }
+{
+    (asked.0 == 0) | (127 < asked.0)
+}
+
+// The rules of a profile: where they start and how many they are; or that there is no such profile.
+pub enum Found {
+    Rules { at: Place, count: usize },
+    Nowhere,
+}
+
+// The rules of the first of n profiles that has this name.
+fn find(text: &[u8], table: &[usize; 128], n: usize, name: &[u8]) -> Found
+    requires { ⌜ n ≤ 32 ⌝ }
+    ensures { λ r. ⌜ r ≡ foundFrom (now (text .entry)) (now (table .entry)) n 0 (now (name .entry)) ⌝ }
+{
+    let mut i = 0;
+    while i < n {
+        let from = table[4 * i];
+        let end = table[4 * i + 1];
+        if scan::same_bytes(scan::span(text, from, end), name) {
+            return Found::Rules {
+                at: Place(table[4 * i + 2]),
+                count: table[4 * i + 3],
+            };
+        }
+        i += 1;
+    }
+    Found::Nowhere
+}
+
+// The answer of an accepted text.
+fn answer_in(
+    text: &[u8],
+    f: FileRead,
+    name: &[u8],
+    path: &[u8],
+    asked: Perms,
+    owner: bool,
+) -> Answer
+    requires { ⌜ f .profiles .count ≤ 32 ⌝ }
+    requires { ⌜ Known (now text) (f .vars .table) (f .vars .count) (f .sizes) ⌝ }
+    requires { ⌜ Fits (now text) (now path) ⌝ }
+    ensures { λ r. ⌜ r ≡ answerIn (held (now (text .entry)) (f .vars)) (record { path = now (path .entry); asked = asked .0; owner = owner }) (now (name .entry)) (profilesFrom (held (now (text .entry)) (f .vars)) (now (text .entry)) (f .profiles .table) (f .profiles .count) 0) ⌝ }
+{
+    let profiles = f.profiles;
+    let vars = f.vars;
+    let sizes = f.sizes;
+    let r = find(text, &profiles.table, profiles.count, name);
+    let Found::Rules { at, count } = r else {
+        return refused(NO_PROFILE, 0);
+    };
+    let found = findings_of(text, &vars.table, vars.count, sizes, path, owner, count, at);
+    finish(text, found, asked)
+}
+
+// The answer to a request.
+pub fn decide(text: &[u8], name: &[u8], path: &[u8], asked: Perms, owner: bool) -> Answer
+    ensures { λ r. ⌜ r ≡ answerOf (now (text .entry)) (now (name .entry)) (now (path .entry)) (asked .0) owner ⌝ }
+{
+    if 65535 < text.len() {
+        return refused(LONG_TEXT, 0);
+    }
+    if is_bad_path(path) {
+        return refused(BAD_PATH, 0);
+    }
+    if is_bad_asked(asked) {
+        return refused(BAD_ASKED, 0);
+    }
+    let f = read(text);
+    let refusal = f.refusal;
+    if f.refused {
+        return refused(refusal.number, refusal.line);
+    }
+    answer_in(text, f, name, path, asked, owner)
 }

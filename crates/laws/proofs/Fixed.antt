@@ -10,8 +10,8 @@ use Rattle.scan.proofs.Laws.{same-eq, same-self}
 use Rattle.perms.proofs.Laws.{and-left, and-right}
 use Rattle.perms.proofs.Table.{same-mode, same-self as mode-self}
 use Rattle.matcher.proofs.Laws.{or-cases, or-r}
-use Rattle.decide.specs.Findings.{Move, Findings, sameMove, SameMembers, Equal}
-use Rattle.decide.specs.Answers.{Choice, Single, Several, choice, preferred, moveOf, executeOf, grants, records, answerFrom}
+use Rattle.findings.specs.Findings.{Move, Findings, sameMove, SameMembers, Equal, Choice, Single, Several, choice}
+use Rattle.answer.specs.Answers.{preferred, moveOf, executeOf, grants, records, answerFrom}
 
 -- ---- equal transitions
 

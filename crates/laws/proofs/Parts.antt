@@ -11,7 +11,7 @@ use Rattle.perms.proofs.Laws.{has-set}
 use Rattle.matcher.proofs.Laws.{iff, or-cases, or-r}
 use Rattle.pattern.specs.Expansions.{Variable}
 use Rattle.rule.specs.Rules.{Rule}
-use Rattle.decide.specs.Findings.{Request, Move, applies, those, bits, moveBy, moves}
+use Rattle.findings.specs.Findings.{Request, Move, applies, those, bits, moveBy, moves}
 use Rattle.laws.specs.Orders.{SameRules, Added, none, kept, added}
 
 -- ---- some rule passes a test

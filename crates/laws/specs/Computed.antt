@@ -3,8 +3,9 @@ use Prim.Native.Nat.{ℕ}
 use mathlib.Core.List.{List}
 use mathlib.Core.Bool.{Bool}
 use Rattle.class.specs.Class.{ranges, goodClass, listed, inClass}
-use Rattle.decide.specs.Answers.{choice, moveOf, executeOf, grants, records, answerFrom, doubled, badPath, answerIn, answerOf}
-use Rattle.decide.specs.Findings.{applies, those, bits, moves, findings}
+use Rattle.answer.specs.Answers.{moveOf, executeOf, grants, records, answerFrom}
+use Rattle.decide.specs.Decide.{doubled, badPath, answerIn, answerOf}
+use Rattle.findings.specs.Findings.{applies, those, bits, moves, findings, choice}
 use Rattle.matcher.specs.Match.{matches, matchesSome, matchesExactly}
 use Rattle.pattern.specs.Expansions.{isSet, ofParts, oneOf, ofName, ofItems, across, expansions, count, longest, joinedAfter}
 use Rattle.pattern.specs.Faults.{tooMany, rooted, valueFault, patternFault}
@@ -22,7 +23,7 @@ use Rattle.scan.specs.Bytes.{bytes, every, some, same, run}
 use Rattle.text.specs.Reading.{feeds, lineOf}
 use Rattle.text.specs.Tokens.{includes, skip, tokenFrom, tokenAt}
 use Rattle.text.specs.Words.{notTaken}
-use Rattle.decide.specs.declared.Answer.{Answer}
+use Rattle.answer.specs.declared.Answer.{Answer}
 
 unfoldable pub computed : (text name path : List ℕ) (asked : ℕ) (owner : Bool) → Answer
 unfolding bytes every some same run has modeIn letters carried withMode wordOf feeds lineOf includes skip tokenFrom tokenAt notTaken ranges goodClass listed inClass upTo extra part parts before afterComma item reach items valueForm patternForm valueNames patternNames isSet ofParts oneOf ofName ofItems across expansions count longest joinedAfter tooMany rooted valueFault patternFault matches matchesSome matchesExactly nameForm variableForm valuesOf setBefore extended assigned finalSets valuesAt named operatorFrom assignmentFrom preambleAt optional qualifiersAt patternAt permsAt targetAt commaAt ruleFrom rulesAt nameAt openAt headAt profilesAt fileOf applies those bits moves findings choice moveOf executeOf grants records answerFrom doubled badPath answerIn answerOf sameMode

@@ -17,8 +17,8 @@ use Rattle.perms.specs.declared.Transition.{Transition}
 use Rattle.perms.specs.declared.Transition.the-variants as transition
 use Rattle.rule.specs.Rules.{Rule}
 use Rattle.profile.specs.Profiles.{Profile, File}
-use Rattle.decide.specs.Findings.{allows, denies}
-use Rattle.decide.specs.Answers.{answerOf}
+use Rattle.findings.specs.Findings.{allows, denies}
+use Rattle.decide.specs.Decide.{answerOf}
 use Rattle.laws.specs.Computed.{computed}
 use Rattle.laws.specs.Orders.{Accepted, SameRules, Added, none, kept, added, both, SameButRules, Holds, here, later}
 

@@ -10,10 +10,11 @@ use Rattle.perms.specs.declared.Kind.the-variants as kind
 use Rattle.perms.specs.declared.Fallback.the-variants as fallback
 use Rattle.perms.specs.declared.Execute.{Execute}
 use Rattle.perms.specs.declared.Execute.the-variants.{NotAsked, ByMode}
-use Rattle.decide.specs.Answers.{targetOf, answerOf}
-use Rattle.decide.specs.declared.Answer.{Answer}
+use Rattle.answer.specs.Answers.{targetOf}
+use Rattle.decide.specs.Decide.{answerOf}
+use Rattle.answer.specs.declared.Answer.{Answer}
 use Rattle.laws.specs.Computed.{computed}
-use Rattle.decide.specs.declared.Verdict.the-variants.{Answered}
+use Rattle.answer.specs.declared.Verdict.the-variants.{Answered}
 
 -- "Text T"
 abbrev pub textT : String

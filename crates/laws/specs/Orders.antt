@@ -12,7 +12,7 @@ use Rattle.perms.specs.declared.Execute.the-variants.{Conflict, ByMode}
 use Rattle.text.specs.Reading.{Read}
 use Rattle.rule.specs.Rules.{Rule}
 use Rattle.profile.specs.Profiles.{Profile, File, fileOf}
-use Rattle.decide.specs.declared.Answer.{Answer}
+use Rattle.answer.specs.declared.Answer.{Answer}
 
 -- a text is accepted and means this file
 pub record Accepted (text : List ℕ) (f : File) : Type 0 where

@@ -205,7 +205,7 @@ fn fallback_number(mode: Mode) -> u8
 }
 
 // Whether two modes are the same.
-fn same_mode(a: Mode, b: Mode) -> bool
+pub fn same_mode(a: Mode, b: Mode) -> bool
     ensures { λ r. ⌜ r ≡ sameMode a b ⌝ }
 {
     let same_kind = kind_number(a) == kind_number(b);

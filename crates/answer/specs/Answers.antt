@@ -1,35 +1,19 @@
--- The answer to a text, a profile name and a request.
+-- The answer that findings give, and refusals.
 use Prim.Native.Nat.{ℕ, _-_}
-use Prim.Native.Char.{code}
 use mathlib.Core.List.{List, [], _∷_, _++_}
 use mathlib.Core.Bool.{Bool, true, false, not, _||_, _&&_}
 use lib.ListN.{length, replicate}
-use lib.Dec.{eqb, ltb}
-use Rattle.scan.specs.Bytes.{begins, every, holds, isEmpty, same, if_then_else_}
+use lib.Dec.{eqb}
+use Rattle.scan.specs.Bytes.{if_then_else_}
 use Rattle.perms.specs.Sets.{has, setOf, perms}
 use Rattle.perms.specs.declared.Execute.{Execute}
 use Rattle.perms.specs.declared.Execute.the-variants.{NotAsked, Denied, Conflict, ByMode}
-use Rattle.text.specs.Reading.{Reading, Read, Refused, lineOf}
-use Rattle.text.specs.Tokens.{nul}
-use Rattle.pattern.specs.Expansions.{Variable}
-use Rattle.preamble.specs.Variables.{finalSets}
-use Rattle.profile.specs.Profiles.{File, Profile, fileOf}
-use Rattle.decide.specs.Findings.{Request, Move, Findings, findings, sameMove}
-use Rattle.decide.specs.declared.Answer.{Answer}
-use Rattle.decide.specs.declared.Target.{Target}
-use Rattle.decide.specs.declared.Verdict.the-variants as verdict
+use Rattle.findings.specs.Findings.{Move, Findings, Choice, None, Single, Several, choice}
+use Rattle.answer.specs.declared.Answer.{Answer}
+use Rattle.answer.specs.declared.Target.{Target}
+use Rattle.answer.specs.declared.Verdict.the-variants as verdict
 
 -- ---- execute
-
--- the members of a set of transitions: none, one, or more
-pub data Choice : Type 0 where
-  None : Choice
-  Single : Move → Choice
-  Several : Choice
-
-unfoldable pub choice : List Move → Choice
-choice [] = None
-choice (m ∷ ms) = if every (sameMove m) ms then Single m else Several
 
 -- "take the exact transitions if any, else the others"
 abbrev pub preferred : (exact others : List Move) → List Move
@@ -109,47 +93,3 @@ refusal n line =
       execute = NotAsked;
       target = targetOf [];
     }
-
-unfoldable pub doubled : List ℕ → Bool
-doubled [] = false
-doubled (b ∷ s) = (eqb b (code "/") && begins (code "/") s) || doubled s
-
--- refusal 2: "path empty, over 4,095 bytes, not starting /, holding NUL or //"
-unfoldable pub badPath : List ℕ → Bool
-badPath s = isEmpty s || ltb 4095 (length s) || not (begins (code "/") s) || holds nul s || doubled s
-
--- refusal 3: "asked set 0 or over 127"
-abbrev pub badAsked : ℕ → Bool
-badAsked n = eqb n 0 || ltb 127 n
-
--- ---- the whole answer
-
--- the answer of the profile of that name; 11: "no profile with that name"
-unfoldable pub answerIn : List Variable → Request → (name : List ℕ) → List Profile → Answer
-answerIn vs q n [] = refusal 11 0
-answerIn vs q n (p ∷ ps) =
-    elim (same (p .name) n) [
-      | true ↦ answerFrom (findings vs q (p .rules)) (q .asked)
-      | false ↦ answerIn vs q n ps
-    ]
-
-abbrev pub answerBy : List ℕ → Reading File → (name : List ℕ) → Request → Answer
-answerBy text (Read f) n q = answerIn (finalSets [] (f .preamble)) q n (f .profiles)
-answerBy text (Refused number place) n q = refusal number (lineOf text place)
-
--- "Order: 1, 2, 3, then the text, first offending token in reading order, then 11."
-unfoldable pub answerOf : (text name path : List ℕ) (asked : ℕ) (owner : Bool) → Answer
-answerOf text n path asked owner =
-    elim (ltb 65535 (length text)) [
-      | true ↦ refusal 1 0
-      | false ↦
-          elim (badPath path) [
-            | true ↦ refusal 2 0
-            | false ↦
-                elim (badAsked asked) [
-                  | true ↦ refusal 3 0
-                  | false ↦
-                      answerBy text (fileOf text) n (record { path = path; asked = asked; owner = owner })
-                ]
-          ]
-    ]

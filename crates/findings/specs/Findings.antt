@@ -4,7 +4,7 @@ use mathlib.Core.Path.{_≡_}
 use mathlib.Core.List.{List, [], _∷_, _++_}
 use mathlib.Core.Bool.{Bool, true, false, not, _||_, _&&_}
 use lib.Bits.{bitOr}
-use Rattle.scan.specs.Bytes.{same, some}
+use Rattle.scan.specs.Bytes.{every, same, some, if_then_else_}
 use Rattle.perms.specs.Sets.{has, setOf}
 use Rattle.perms.specs.Modes.{sameMode}
 use Rattle.perms.specs.declared.Mode.{Mode}
@@ -102,6 +102,16 @@ join f g =
 
 abbrev pub sameMove : Move → Move → Bool
 sameMove a b = sameMode (a .mode) (b .mode) && same (a .target) (b .target)
+
+-- the members of a set of transitions: none, one, or more
+pub data Choice : Type 0 where
+  None : Choice
+  Single : Move → Choice
+  Several : Choice
+
+unfoldable pub choice : List Move → Choice
+choice [] = None
+choice (m ∷ ms) = if every (sameMove m) ms then Single m else Several
 
 -- two sets of transitions "have the same members"
 abbrev pub SameMembers : List Move → List Move → Type 0

@@ -1,0 +1,190 @@
+-- Laws of the parts of an answer.
+use Prim.Native.Nat.{ℕ, suc, _+_, _-_, _<_, _≤_}
+use mathlib.Core.Path.{_≡_, refl, sym, ap, _∙_, subst}
+use mathlib.Core.List.{List, [], _∷_, _++_, append-assoc}
+use mathlib.Core.Bool.{Bool, true, false, not, _||_, _&&_, and-true, or-true, or-false, false≢true}
+use native.Mathlib.Numerals.{add-one}
+use native.Mathlib.Omega.{arith}
+use lib.Bits.{bitAnd, bitOr, and-comm, and-le-l, and-le-r, or-lt}
+use lib.Dec.{eqb}
+use lib.ListN.{length, replicate, set, getD, take, length-take}
+use lib.Seq.{set-at, take-suc, take-all}
+use borrow.Author.Tests.{eqb-true}
+use Rattle.scan.specs.Bytes.{every, if_then_else_}
+use Rattle.perms.specs.Sets.{has, setOf, perms, without, within}
+use Rattle.perms.specs.declared.Perms.{Perms}
+use Rattle.perms.specs.declared.Execute.{Execute}
+use Rattle.perms.specs.declared.Execute.the-variants.{NotAsked, Denied, Conflict, ByMode}
+use Rattle.perms.proofs.Laws.{and-left, has-and, has-or, has-set, has-within, has-without, set-eq, set-lt, within-has}
+use Rattle.findings.specs.Findings.{Move, Findings, Choice, None, Single, Several, choice, sameMove}
+use Rattle.answer.specs.Answers.{preferred, x, executeOf, grants, isMode, moveOf, namedBy, records, targetOf}
+use Rattle.answer.specs.Parts.{Granted, Recorded, executeBy, firstOf, targetBy}
+
+-- ---- the sets {x} and of all permissions
+
+has-x : (k : ℕ) → k < 8 → has 64 k ≡ eqb k x
+has-x k h = has-set 8 (λ k. eqb k x) k h
+
+has-all : (k : ℕ) → k < 7 → has 127 k ≡ true
+has-all k h = has-set 7 (λ k. true) k h
+
+-- {x} is within the sets that have x
+pub within-x : (a : Perms) → a .0 < 256 → within (perms 64) a ≡ has (a .0) x
+within-x a h =
+    go (within (perms 64) a) (has (a .0) x)
+    (λ e. within-has (perms 64) a x e (has-x x (omega arith)))
+    (λ e. has-within (perms 64) a (omega arith) h (λ k l q. subst (λ (j : ℕ). has (a .0) j ≡ true) (sym (eqb-true k x (sym (has-x k l) ∙ q))) e))
+  where
+    go : (p q : Bool) → (p ≡ true → q ≡ true) → (q ≡ true → p ≡ true) → p ≡ q
+    go true q f g = sym (f refl)
+    go false true f g = g refl
+    go false false f g = refl
+
+-- the asked permissions among all
+masked : (a k : ℕ) → k < 7 → has (bitAnd a 127) k ≡ has a k
+masked a k h = ap (λ (n : ℕ). has n k) (and-comm a 127) ∙ has-and 127 a k ∙ ap (λ (b : Bool). b && has a k) (has-all k h)
+
+masked-lt : (a : ℕ) → bitAnd a 127 < 128
+masked-lt a = omega (arith, and-le-r a 127)
+
+-- ---- execute
+
+-- of a set that is not empty the choice is not None
+first-choice : (es os : List Move) → firstOf (choice es) (choice os) ≡ choice (preferred es os)
+unfolding choice
+first-choice [] os = refl
+first-choice (m ∷ ms) os = go (every (sameMove m) ms)
+  where
+    go : (b : Bool) → firstOf (if b then Single m else Several) (choice os) ≡ (if b then Single m else Several)
+    go true = refl
+    go false = refl
+
+pub move-is : (f : Findings) (e o : Choice) → e ≡ choice (f .exact) → o ≡ choice (f .others) → firstOf e o ≡ moveOf f
+unfolding moveOf
+move-is f e o p q = rw (p, q) (first-choice (f .exact) (f .others))
+
+pub named-target : (e : Execute) (c : Choice) → targetBy (isMode e) c ≡ namedBy e c
+named-target NotAsked c = refl
+named-target Denied c = refl
+named-target Conflict c = refl
+named-target (ByMode m) None = refl
+named-target (ByMode m) (Single t) = refl
+named-target (ByMode m) Several = refl
+
+-- ---- granted
+
+without-le : (a b : Perms) → without a b .0 ≤ a .0
+without-le a b = and-le-l (a .0) (255 - b .0)
+
+module _ (asked allowed denied : Perms) (h : denied .0 < 256) where
+  abbrev left : Perms
+  left = without (perms (bitAnd (asked .0) (allowed .0))) denied
+
+  left-each : (k : ℕ) → k < 7 → has (left .0) k ≡ ((has (asked .0) k && has (allowed .0) k) && not (has (denied .0) k))
+  left-each k l = has-without (perms (bitAnd (asked .0) (allowed .0))) denied k h (omega arith) ∙ ap (λ (b : Bool). b && not (has (denied .0) k)) (has-and (asked .0) (allowed .0) k)
+
+  left-le : left .0 ≤ asked .0
+  left-le = omega (arith, without-le (perms (bitAnd (asked .0) (allowed .0))) denied, and-le-l (asked .0) (allowed .0))
+
+  pub granted-mode : Granted (asked .0) (allowed .0) (denied .0) true (left .0)
+  granted-mode = record { each = λ k l. left-each k l ∙ rw (or-true, and-true); small = λ s. omega (arith, left-le) }
+
+  pub granted-none : Granted (asked .0) (allowed .0) (denied .0) false (without left (perms 64) .0)
+  granted-none =
+      record {
+        each = λ k l. has-without left (perms 64) k (omega arith) (omega arith) ∙ rw (left-each k l, has-x k (omega arith), or-false);
+        small = λ s. omega (arith, left-le, without-le left (perms 64));
+      }
+
+-- ---- recorded
+
+module _ (asked granted denied : Perms) (allowedAudit deniedAudit : ℕ) (hg : granted .0 < 256) (hd : denied .0 < 256) where
+  abbrev refused : Perms
+  refused = without asked granted
+
+  abbrev byAllow : ℕ
+  byAllow = bitAnd (granted .0) allowedAudit
+
+  abbrev byDeny : ℕ
+  byDeny = bitAnd (bitAnd (refused .0) (denied .0)) deniedAudit
+
+  refused-each : (k : ℕ) → k < 7 → has (refused .0) k ≡ (has (asked .0) k && not (has (granted .0) k))
+  refused-each k l = has-without asked granted k hg (omega arith)
+
+  pub recorded-each : Recorded (asked .0) (granted .0) allowedAudit (denied .0) deniedAudit (bitOr (bitOr byAllow byDeny) (without refused denied .0))
+  recorded-each =
+      record {
+        each = λ k l. rw (
+          has-or (bitOr byAllow byDeny) (without refused denied .0) k,
+          has-or byAllow byDeny k,
+          has-and (granted .0) allowedAudit k,
+          has-and (bitAnd (refused .0) (denied .0)) deniedAudit k,
+          has-and (refused .0) (denied .0) k,
+          has-without refused denied k hd (omega arith),
+          refused-each k l,
+        );
+        small = λ ha hs. or-lt 7 (bitOr byAllow byDeny) (without refused denied .0)
+            (or-lt 7 byAllow byDeny (omega (arith, and-le-l (granted .0) allowedAudit)) (omega (arith, and-le-l (bitAnd (refused .0) (denied .0)) deniedAudit, and-le-l (refused .0) (denied .0), without-le asked granted)))
+            (omega (arith, without-le refused denied, without-le asked granted));
+      }
+
+-- ---- the parts as the definitions have them
+
+module _ (f : Findings) (asked wanted : ℕ) (e : wanted ≡ bitAnd asked 127) where
+  same : (k : ℕ) → k < 7 → has wanted k ≡ has asked k
+  same k l = ap (λ (n : ℕ). has n k) e ∙ masked asked k l
+
+  small : wanted < 128
+  small = omega (arith, masked-lt asked)
+
+  pub execute-is : (denied : ℕ) (c : Choice) → denied ≡ f .denied → c ≡ moveOf f → executeBy wanted denied c ≡ executeOf f asked
+  unfolding executeBy executeOf
+  execute-is denied c p q = rw (same x (omega arith), p, q)
+
+  pub granted-is : (allowed denied r : ℕ) (mode : Bool) → allowed ≡ f .allowed → denied ≡ f .denied → mode ≡ isMode (executeOf f asked)
+      → Granted wanted allowed denied mode r → r ≡ setOf 7 (grants f asked)
+  unfolding grants
+  granted-is allowed denied r mode p q m g = set-eq 7 r (grants f asked) (g .small small) (λ k l. g .each k l ∙ rw (same k l, p, q, m))
+
+  granted-asked : (k : ℕ) → grants f asked k ≡ true → has asked k ≡ true
+  unfolding grants
+  granted-asked k h =
+      let a : Bool = has asked k in
+      let b : Bool = a && has (f .allowed) k in
+      let d : Bool = not (has (f .denied) k) in
+      and-left a (has (f .allowed) k) (and-left b d (and-left (b && d) (not (eqb k x) || isMode (executeOf f asked)) h))
+
+  pub recorded-is : (granted allowedAudit denied deniedAudit r : ℕ) → granted ≡ setOf 7 (grants f asked)
+      → allowedAudit ≡ f .allowedAudit → denied ≡ f .denied → deniedAudit ≡ f .deniedAudit
+      → Recorded wanted granted allowedAudit denied deniedAudit r → r ≡ setOf 7 (records f asked)
+  unfolding records
+  recorded-is granted allowedAudit denied deniedAudit r q p d t h =
+      set-eq 7 r (records f asked) (h .small small (rw q (set-lt 7 (grants f asked))))
+      (λ k l. h .each k l
+      ∙ rw (same k l, ap (λ (n : ℕ). has n k) q ∙ has-set 7 (grants f asked) k l, p, d, t)
+      (go (has asked k) (grants f asked k) (has (f .allowedAudit) k) (has (f .denied) k) (has (f .deniedAudit) k) (granted-asked k)))
+    where
+      go : (a g p d q : Bool) → (g ≡ true → a ≡ true)
+          → (((g && p) || (((a && not g) && d) && q)) || ((a && not g) && not d)) ≡ (a && (if g then p else if d then q else true))
+      go true true true d q h = refl
+      go true true false d q h = refl
+      go true false p true true h = refl
+      go true false p true false h = refl
+      go true false p false q h = refl
+      go false true p d q h = absurd (false≢true (h refl))
+      go false false p d q h = refl
+
+-- ---- the bytes of a target
+
+-- one byte more
+pub fill-next : (s l : List ℕ) (n : ℕ) → n < length s → n < 255 → l ≡ take n s ++ replicate (255 - n) 0 → set l n (getD s n 0) ≡ take (n + 1) s ++ replicate (255 - (n + 1)) 0
+fill-next s l n h k e =
+    let m : 255 - n ≡ suc (255 - (n + 1)) = omega arith in
+    ap (λ (t : List ℕ). set t n (getD s n 0)) (e ∙ ap (λ (j : ℕ). take n s ++ replicate j 0) m)
+    ∙ set-at (take n s) 0 (replicate (255 - (n + 1)) 0) (getD s n 0) n (simp length-take (omega arith))
+    ∙ sym (append-assoc (take n s) (getD s n 0 ∷ []) (replicate (255 - (n + 1)) 0))
+    ∙ ap (λ (t : List ℕ). t ++ replicate (255 - (n + 1)) 0) (sym (take-suc s n 0 h) ∙ ap (λ (j : ℕ). take j s) (sym (add-one n)))
+
+-- all of them
+pub fill-end : (s l : List ℕ) (n : ℕ) → n ≡ length s → l ≡ take n s ++ replicate (255 - n) 0 → record { bytes = l; len = n } ≡ targetOf s
+fill-end s l n h e = λ i. record { bytes = (e ∙ ap (λ (t : List ℕ). t ++ replicate (255 - n) 0) (take-all n s (omega arith)) ∙ ap (λ (j : ℕ). s ++ replicate (255 - j) 0) h) i; len = h i }

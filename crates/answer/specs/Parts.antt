@@ -1,0 +1,42 @@
+-- The parts of an answer, as the code makes them from sets of permissions and from choices.
+use Prim.Native.Nat.{ℕ, _<_}
+use mathlib.Core.Path.{_≡_}
+use mathlib.Core.List.{List, []}
+use mathlib.Core.Bool.{Bool, true, false, not, _||_, _&&_}
+use lib.Dec.{eqb}
+use Rattle.scan.specs.Bytes.{if_then_else_}
+use Rattle.perms.specs.Sets.{has}
+use Rattle.perms.specs.declared.Execute.{Execute}
+use Rattle.perms.specs.declared.Execute.the-variants.{NotAsked}
+use Rattle.findings.specs.Findings.{Choice, None, Single, Several}
+use Rattle.answer.specs.Answers.{chosen, x}
+
+-- the first choice unless it has no member, else the second
+abbrev pub firstOf : Choice → Choice → Choice
+firstOf None c = c
+firstOf (Single m) c = Single m
+firstOf Several c = Several
+
+-- what x is answered
+unfoldable pub executeBy : (asked denied : ℕ) → Choice → Execute
+executeBy asked denied c = if has asked x then chosen (has denied x) c else NotAsked
+
+-- the target that a choice names
+abbrev pub targetBy : (mode : Bool) → Choice → List ℕ
+targetBy false c = []
+targetBy true None = []
+targetBy true (Single m) = m .target
+targetBy true Several = []
+
+-- the set r holds what is asked, allowed and not denied, and x only with a mode
+pub record Granted (asked allowed denied : ℕ) (mode : Bool) (r : ℕ) : Type 0 where
+  pub each : (k : ℕ) → k < 7 → has r k ≡ (has asked k && has allowed k && not (has denied k) && (not (eqb k x) || mode))
+  pub small : asked < 128 → r < 128
+
+-- the set r holds what is granted and audited, denied and audited, or refused without a denial
+pub record Recorded (asked granted allowedAudit denied deniedAudit r : ℕ) : Type 0 where
+  pub each : (k : ℕ) → k < 7
+      → has r k
+      ≡ (((has granted k && has allowedAudit k) || (((has asked k && not (has granted k)) && has denied k) && has deniedAudit k))
+      || ((has asked k && not (has granted k)) && not (has denied k)))
+  pub small : asked < 128 → granted < 128 → r < 128

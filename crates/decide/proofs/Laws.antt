@@ -1,0 +1,161 @@
+-- What the definitions of the whole answer say, by what the code has read.
+use Prim.Native.Nat.{ℕ, zero, suc, _+_, _*_, _≤_, _<_}
+use Prim.Native.Char.{code}
+use mathlib.Core.Path.{_≡_, refl, sym, ap, _∙_}
+use mathlib.Core.List.{List, [], _∷_}
+use mathlib.Core.Bool.{Bool, true, false, not, _||_, _&&_, false≢true}
+use lib.ListN.{length, getD, drop, drop-of-length-le}
+use lib.Seq.{drop-cons}
+use lib.Dec.{eqb, ltb}
+use borrow.Author.Tests.{ltb-false, le-leb, lt-ltb, le-ltb}
+use native.Mathlib.Omega.{arith}
+use Rattle.scan.specs.Bytes.{begins, holds, isEmpty, same}
+use Rattle.class.proofs.Laws.{begins-with}
+use Rattle.text.specs.Reading.{Reading, Read, Refused}
+use Rattle.text.specs.Tokens.{nul}
+use Rattle.pattern.specs.Expansions.{Variable}
+use Rattle.pattern.specs.Table.{bytesAt}
+use Rattle.matcher.specs.Walk.{pathFits}
+use Rattle.rules.specs.Steps.{rulesFrom}
+use Rattle.faults.proofs.Laws.{empty-no}
+use Rattle.preamble.specs.Places.{held}
+use Rattle.profile.specs.Profiles.{File, fileOf}
+use Rattle.profile.specs.Places.{Judged, Accepted, Rejected, judgedOf, profilesFrom, seenFile}
+use Rattle.profile.specs.declared.FileRead.{FileRead}
+use Rattle.findings.specs.Findings.{Request, Move, Findings, Single, findings}
+use Rattle.findings.proofs.Sound.{All, ShortMove, choice-short, rules-short}
+use Rattle.answer.specs.Answers.{answerFrom, moveOf, preferred, refusal}
+use Rattle.answer.specs.Short.{Short}
+use Rattle.answer.specs.declared.Answer.{Answer}
+use Rattle.decide.specs.Decide.{answerBy, answerIn, answerOf, badAsked, badPath, doubled}
+use Rattle.decide.specs.Places.{foundFrom}
+use Rattle.decide.specs.declared.Found.{Found}
+use Rattle.decide.specs.declared.Found.the-variants.{Rules, Nowhere}
+
+-- ---- paths
+
+module _ (s : List ℕ) (i : ℕ) where
+  pub doubled-more : i < length s → doubled (drop i s) ≡ ((eqb (getD s i 0) (code "/") && begins (code "/") (drop (i + 1) s)) || doubled (drop (i + 1) s))
+  unfolding doubled
+  doubled-more h = let e : i + 1 ≡ suc i = omega arith in rw (drop-cons s i 0 h, e)
+
+  pub doubled-end : length s ≤ i → doubled (drop i s) ≡ false
+  unfolding doubled
+  doubled-end h = rw (drop-of-length-le s h)
+
+pub bad-empty : (s : List ℕ) → length s ≡ 0 → badPath s ≡ true
+unfolding badPath
+bad-empty [] e = refl
+bad-empty (b ∷ s) e = absurd (omega arith)
+
+pub bad-more : (s : List ℕ) → (length s ≡ 0 → ⊥) → badPath s ≡ (ltb 4095 (length s) || not (eqb (getD s 0 0) (code "/")) || holds nul s || doubled s)
+unfolding badPath
+bad-more s h = let n : 0 < length s = omega arith in rw (empty-no s h, begins-with (code "/") s n)
+
+-- a path that is not refused fits
+pub good-fits : (s : List ℕ) → badPath s ≡ false → pathFits s ≡ true
+unfolding badPath
+good-fits s e = le-leb (length s) 4095 (ltb-false 4095 (length s) (second (isEmpty s) (ltb 4095 (length s)) (not (begins (code "/") s)) (holds nul s) (doubled s) e))
+  where
+    second : (a b c d e : Bool) → (a || b || c || d || e) ≡ false → b ≡ false
+    second false false c d e h = refl
+    second false true false false false h = h
+    second false true false false true h = h
+    second false true false true e h = h
+    second false true true d e h = h
+    second true b c d e h = absurd (false≢true (sym h ∙ top b c d e))
+      where
+        top : (b c d e : Bool) → (true || b || c || d || e) ≡ true
+        top b c d e = refl
+
+-- ---- the profile of a name
+
+module _ (s t : List ℕ) (k i : ℕ) (name : List ℕ) where
+  pub found-here : same (bytesAt s t (4 * i)) name ≡ true → foundFrom s t (suc k) i name ≡ Rules (record { 0 = getD t (4 * i + 2) 0 }) (getD t (4 * i + 3) 0)
+  unfolding foundFrom
+  found-here e = rw (e, foundFrom)
+
+  pub found-later : same (bytesAt s t (4 * i)) name ≡ false → foundFrom s t (suc k) i name ≡ foundFrom s t k (i + 1) name
+  unfolding foundFrom
+  found-later e = rw (e, foundFrom)
+
+pub found-none : (s t : List ℕ) (i : ℕ) (name : List ℕ) → foundFrom s t 0 i name ≡ Nowhere
+unfolding foundFrom
+found-none s t i name = refl
+
+-- the answer of the rules that were found
+abbrev pub answerOfFound : List Variable → Request → List ℕ → Found → Answer
+answerOfFound vs q s (Rules at count) = answerFrom (findings vs q (rulesFrom count vs s (at .0))) (q .asked)
+answerOfFound vs q s Nowhere = refusal 11 0
+
+pub answer-found : (vs : List Variable) (q : Request) (s t : List ℕ) (k i : ℕ) (name : List ℕ)
+    → answerIn vs q name (profilesFrom vs s t k i) ≡ answerOfFound vs q s (foundFrom s t k i name)
+unfolding answerIn profilesFrom foundFrom
+answer-found vs q s t zero i name = refl
+answer-found vs q s t (suc k) i name = go (same (bytesAt s t (4 * i)) name) (answer-found vs q s t k (i + 1) name)
+  where
+    rules : Answer
+    rules = answerFrom (findings vs q (rulesFrom (getD t (4 * i + 3) 0) vs s (getD t (4 * i + 2) 0))) (q .asked)
+
+    go : (b : Bool) → answerIn vs q name (profilesFrom vs s t k (i + 1)) ≡ answerOfFound vs q s (foundFrom s t k (i + 1) name) →
+        (elim b as (λ _. Answer) [ true ↦ rules | false ↦ answerIn vs q name (profilesFrom vs s t k (i + 1)) ])
+        ≡ answerOfFound vs q s (elim b as (λ _. Found) [ true ↦ Rules (record { 0 = getD t (4 * i + 2) 0 }) (getD t (4 * i + 3) 0) | false ↦ foundFrom s t k (i + 1) name ])
+    go true e = refl
+    go false e = e
+
+-- ---- the text's judgement
+
+abbrev pub answerOfJudged : Request → (name : List ℕ) → Judged → Answer
+answerOfJudged q n (Accepted vs ps) = answerIn vs q n ps
+answerOfJudged q n (Rejected number line) = refusal number line
+
+pub answer-judged : (s : List ℕ) (x : Reading File) (n : List ℕ) (q : Request) → answerBy s x n q ≡ answerOfJudged q n (judgedOf s x)
+unfolding judgedOf
+answer-judged s (Read f) n q = refl
+answer-judged s (Refused number place) n q = refl
+
+module _ (s : List ℕ) (r : FileRead) where
+  pub seen-rejected : r .refused ≡ true → seenFile s r ≡ Rejected (r .refusal .number) (r .refusal .line)
+  unfolding seenFile
+  seen-rejected e = rw e
+
+  pub seen-accepted : r .refused ≡ false → seenFile s r ≡ Accepted (held s (r .vars)) (profilesFrom (held s (r .vars)) s (r .profiles .table) (r .profiles .count) 0)
+  unfolding seenFile
+  seen-accepted e = rw e
+
+-- ---- the whole answer, by the order of refusals
+
+module _ (text n path : List ℕ) (asked : ℕ) (owner : Bool) where
+  pub answer-long : 65535 < length text → answerOf text n path asked owner ≡ refusal 1 0
+  unfolding answerOf
+  answer-long h = rw (lt-ltb 65535 (length text) h, answerOf)
+
+  pub answer-path : length text ≤ 65535 → badPath path ≡ true → answerOf text n path asked owner ≡ refusal 2 0
+  unfolding answerOf
+  answer-path h e = rw (le-ltb 65535 (length text) h, answerOf, e)
+
+  pub answer-asked : length text ≤ 65535 → badPath path ≡ false → badAsked asked ≡ true → answerOf text n path asked owner ≡ refusal 3 0
+  unfolding answerOf
+  answer-asked h e k = rw (le-ltb 65535 (length text) h, answerOf, e, k)
+
+  -- what was read decides
+  pub answer-read : length text ≤ 65535 → badPath path ≡ false → badAsked asked ≡ false → {j : Judged} → j ≡ judgedOf text (fileOf text)
+      → answerOf text n path asked owner ≡ answerOfJudged (record { path = path; asked = asked; owner = owner }) n j
+  unfolding answerOf
+  answer-read h e k {j} r =
+      rw (le-ltb 65535 (length text) h, answerOf, e, k)
+      (answer-judged text (fileOf text) n (record { path = path; asked = asked; owner = owner })
+      ∙ ap (answerOfJudged (record { path = path; asked = asked; owner = owner }) n) (sym r))
+
+-- ---- targets
+
+preferred-all : (P : Move → Type 0) (xs ys : List Move) → All P xs → All P ys → All P (preferred xs ys)
+preferred-all P [] ys h k = k
+preferred-all P (x ∷ xs) ys h k = h
+
+pub move-short : (vs : List Variable) (q : Request) (s : List ℕ) (k at : ℕ) → Short (moveOf (findings vs q (rulesFrom k vs s at)))
+unfolding moveOf
+move-short vs q s k at m e =
+    let h = rules-short vs q s k at in
+    let f : Findings = findings vs q (rulesFrom k vs s at) in
+    choice-short (preferred (f .exact) (f .others)) (preferred-all ShortMove (f .exact) (f .others) (h .0) (h .1)) m e

@@ -1,0 +1,112 @@
+-- Findings as they are gathered rule by rule: of a set of transitions only whether it has no member, one or more.
+use Prim.Native.Nat.{ℕ, _≤_}
+use mathlib.Core.Path.{_≡_}
+use mathlib.Core.List.{List}
+use mathlib.Core.Bool.{Bool, true, not, _||_, _&&_}
+use lib.Bits.{bitOr}
+use lib.ListN.{length}
+use Rattle.scan.specs.Bytes.{if_then_else_}
+use Rattle.perms.specs.declared.Perms.{Perms}
+use Rattle.perms.specs.declared.Transition.{Transition}
+use Rattle.perms.specs.declared.Transition.the-variants.{Absent, ByMode}
+use Rattle.matcher.specs.Walk.{pathFits}
+use Rattle.glob.specs.declared.Matched.{Matched}
+use Rattle.rule.specs.Rules.{Rule}
+use Rattle.rule.specs.Places.{spanOf}
+use Rattle.findings.specs.Findings.{Move, Findings, Choice, None, Single, Several, choice, sameMove}
+use Rattle.findings.specs.declared as code
+use Rattle.findings.specs.declared.Choice.the-variants as choices
+
+pub record Weighed : Type 0 where
+  pub allowed : ℕ
+  pub allowedAudit : ℕ
+  pub denied : ℕ
+  pub deniedAudit : ℕ
+  pub exact : Choice
+  pub others : Choice
+
+unfoldable pub weighed : Findings → Weighed
+weighed f =
+    record {
+      allowed = f .allowed;
+      allowedAudit = f .allowedAudit;
+      denied = f .denied;
+      deniedAudit = f .deniedAudit;
+      exact = choice (f .exact);
+      others = choice (f .others);
+    }
+
+-- what no rule gives
+abbrev pub nothing : Weighed
+nothing = record { allowed = 0; allowedAudit = 0; denied = 0; deniedAudit = 0; exact = None; others = None }
+
+-- ---- one rule more
+
+-- one member more
+abbrev pub withMove : Choice → Move → Choice
+withMove None m = Single m
+withMove (Single k) m = if sameMove k m then Single k else Several
+withMove Several m = Several
+
+abbrev pub withTransition : Choice → Transition → (target : List ℕ) → Choice
+withTransition c Absent t = c
+withTransition c (ByMode m) t = withMove c (record { mode = m; target = t })
+
+-- a matching allow rule more, which matches exactly or otherwise
+unfoldable pub allowing : (exact : Bool) → Rule → Weighed → Weighed
+allowing exact r w =
+    record {
+      allowed = bitOr (w .allowed) (r .perms .0);
+      allowedAudit = if r .audit then bitOr (w .allowedAudit) (r .perms .0) else w .allowedAudit;
+      denied = w .denied;
+      deniedAudit = w .deniedAudit;
+      exact = if exact then withTransition (w .exact) (r .transition) (r .target) else w .exact;
+      others = if not exact then withTransition (w .others) (r .transition) (r .target) else w .others;
+    }
+
+-- a matching deny rule more
+unfoldable pub denying : Rule → Weighed → Weighed
+denying r w =
+    record {
+      allowed = w .allowed;
+      allowedAudit = w .allowedAudit;
+      denied = bitOr (w .denied) (r .perms .0);
+      deniedAudit = if r .audit then bitOr (w .deniedAudit) (r .perms .0) else w .deniedAudit;
+      exact = w .exact;
+      others = w .others;
+    }
+
+-- a rule more, by how its pattern matches and whether the request is the owner's
+unfoldable pub weighedBy : (owner : Bool) → Matched → Rule → Weighed → Weighed
+weighedBy owner m r w =
+    if (not (r .owner) || owner) && m .some then (if r .deny then denying r w else allowing (m .exact) r w) else w
+
+-- ---- what the code's values mean over the text
+
+unfoldable pub seenChoice : List ℕ → code.Choice.Choice → Choice
+seenChoice s choices.None = None
+seenChoice s (choices.Single m t) = Single (record { mode = m; target = spanOf s t })
+seenChoice s choices.Several = Several
+
+unfoldable pub seenFindings : List ℕ → code.Findings.Findings → Weighed
+seenFindings s f =
+    record {
+      allowed = f .allowed .all .0;
+      allowedAudit = f .allowed .audited .0;
+      denied = f .denied .all .0;
+      deniedAudit = f .denied .audited .0;
+      exact = seenChoice s (f .exact);
+      others = seenChoice s (f .others);
+    }
+
+-- what is carried with a rule more
+pub record Carries (before : code.Carried.Carried) (audit : Bool) (perms : Perms) (after : code.Carried.Carried) : Type 0 where
+  pub all : after .all .0 ≡ bitOr (before .all .0) (perms .0)
+  pub audited : after .audited .0 ≡ (if audit then bitOr (before .audited .0) (perms .0) else before .audited .0)
+
+-- ---- premises
+
+-- the text and the path are within the sizes of document 01
+pub record Fits (text path : List ℕ) : Type 0 where
+  pub short : length text ≤ 65535
+  pub fits : pathFits path ≡ true
