@@ -1,0 +1,155 @@
+// Answers requests from standard input, one a line, as document 01's case program writes them. A request has five fields
+// parted by tabs: text, profile name and path in hex, the asked number, the owner mark 0 or 1.
+use answer::Answer;
+use answer::Verdict;
+use decide::decide;
+use libc::STDIN_FILENO;
+use perms::Perms;
+use print::put;
+use print::put_execute;
+use print::put_number;
+use print::put_target;
+ghost use Prim.Native.Nat.{_≤_, _<_};
+ghost use Rattle.io.specs.Counts.{Counts};
+
+// The value of a hex digit; of any other byte 0.
+fn digit(b: u8) -> u8
+    ensures { λ r. ⌜ r < 16 ⌝ }
+{
+    if b < b'0' {
+        return 0;
+    }
+    if b <= b'9' {
+        return b - b'0';
+    }
+    if b < b'a' {
+        return 0;
+    }
+    if b <= b'f' {
+        return b - b'a' + 10;
+    }
+    0
+}
+
+// The next byte of the input; 0 behind its end.
+fn next_byte() -> u8 {
+    let mut one = [0u8; 1];
+    io::read_full(STDIN_FILENO, &mut one);
+    one[0]
+}
+
+// Whether a field ends with this byte.
+fn is_end(b: u8) -> bool {
+    (b == b'\t') | (b == b'\n') | (b == 0)
+}
+
+// Reads the hex field that begins with this byte into out, and answers how many bytes it has.
+fn read_hex(first: u8, out: &mut [u8]) -> usize
+    ensures { λ r. ⌜ Counts r (now (out .exit)) ⌝ }
+{
+    let mut b = first;
+    let mut n = 0;
+    while n < out.len() {
+        if is_end(b) {
+            return n;
+        }
+        out[n] = digit(b) * 16 + digit(next_byte());
+        n += 1;
+        b = next_byte();
+    }
+    n
+}
+
+// A number with one digit more; one of four digits stays.
+fn with_digit(n: usize, digit: usize) -> usize
+    requires { ⌜ (n ≤ 10005) × (digit ≤ 15) ⌝ }
+    ensures { λ r. ⌜ r ≤ 10005 ⌝ }
+{
+    if n < 1000 {
+        return n * 10 + digit;
+    }
+    n
+}
+
+// Reads a number of at most three digits, and answers it, or 255 where it is more.
+fn read_number() -> u8 {
+    let mut n: usize = 0;
+    let mut left: usize = 4;
+    while 0 < left {
+        let b = next_byte();
+        if is_end(b) {
+            left = 0;
+        } else {
+            n = with_digit(n, digit(b) as usize);
+            left -= 1;
+        }
+    }
+    if n < 256 {
+        return n as u8;
+    }
+    255
+}
+
+// Writes an answer's line.
+fn put_answer(a: Answer) {
+    let verdict = a.verdict;
+    let execute = a.execute;
+    let target = a.target;
+    match verdict {
+        Verdict::Refused(refusal) => {
+            put(b"refused\t");
+            put_number(refusal.number as u64);
+            put(b"\t");
+            put_number(refusal.line as u64);
+            put(b"\t-\n");
+        }
+        Verdict::Answered => {
+            put_number(a.granted.0 as u64);
+            put(b"\t");
+            put_number(a.recorded.0 as u64);
+            put(b"\t");
+            put_execute(execute);
+            put(b"\t");
+            put_target(target, b"-");
+            put(b"\n");
+        }
+    }
+}
+
+// Answers the next request; false where there is none.
+fn request() -> bool {
+    let first = next_byte();
+    if first == 0 {
+        return false;
+    }
+    let mut text = io::large_buffer();
+    let text_bytes = read_hex(first, &mut text);
+    let mut name = io::buffer();
+    let name_bytes = read_hex(next_byte(), &mut name);
+    let mut path = io::large_buffer();
+    let path_bytes = read_hex(next_byte(), &mut path);
+    let asked = read_number();
+    let owner = read_number() == 1;
+    let a = decide(
+        &text[..text_bytes],
+        &name[..name_bytes],
+        &path[..path_bytes],
+        Perms(asked),
+        owner,
+    );
+    put_answer(a);
+    true
+}
+
+// Answers each request. A proved loop ends, so it counts down from a number that no run uses up.
+fn requests() {
+    let mut turns = u64::MAX;
+    while turns > 0 && request() {
+        turns -= 1;
+    }
+}
+
+fn main() {
+    put(b"granted\trecorded\texecute\ttarget\n");
+    requests();
+}
