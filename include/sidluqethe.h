@@ -1,0 +1,89 @@
+/* Sidluqethe: does this step's AppArmor profile let it have this file?
+ *
+ * Build the archive with `rt staticlib broker` and link target/staticlib/libbroker.a.
+ */
+#ifndef SIDLUQETHE_H
+#define SIDLUQETHE_H
+
+#include <stddef.h>
+#include <stdint.h>
+
+#ifdef __cplusplus
+extern "C" {
+#endif
+
+/* Permissions; a set is their sum. */
+enum {
+    SIDLUQETHE_READ = 1,
+    SIDLUQETHE_WRITE = 2,
+    SIDLUQETHE_APPEND = 4,
+    SIDLUQETHE_MAP = 8,
+    SIDLUQETHE_LINK = 16,
+    SIDLUQETHE_LOCK = 32,
+    SIDLUQETHE_EXECUTE = 64
+};
+
+/* The layout of an answer: places in its bytes. */
+enum {
+    SIDLUQETHE_AT_REFUSAL = 0,       /* number of the refusal, 0 where there is an answer */
+    SIDLUQETHE_AT_GRANTED = 1,       /* set of granted permissions */
+    SIDLUQETHE_AT_RECORDED = 2,      /* set of permissions to record */
+    SIDLUQETHE_AT_EXECUTE = 3,       /* an execute answer, see below */
+    SIDLUQETHE_AT_LINE = 4,          /* line of the refusal, four bytes, lowest first; 0 where it has none */
+    SIDLUQETHE_AT_TARGET_LENGTH = 8, /* length of the target, 0 where there is none */
+    SIDLUQETHE_AT_TARGET = 9,        /* 255 bytes of the target, zero beyond its length */
+    SIDLUQETHE_ANSWER_BYTES = 264
+};
+
+/* Execute answers. */
+enum {
+    SIDLUQETHE_NOT_ASKED = 0,
+    SIDLUQETHE_DENIED = 1,
+    SIDLUQETHE_CONFLICT = 2,
+    SIDLUQETHE_UX = 3,
+    SIDLUQETHE_UX_SCRUB = 4,  /* Ux */
+    SIDLUQETHE_PX = 5,
+    SIDLUQETHE_PX_SCRUB = 6,  /* Px */
+    SIDLUQETHE_CX = 7,
+    SIDLUQETHE_CX_SCRUB = 8,  /* Cx */
+    SIDLUQETHE_IX = 9,
+    SIDLUQETHE_PIX = 10,
+    SIDLUQETHE_PIX_SCRUB = 11, /* Pix */
+    SIDLUQETHE_CIX = 12,
+    SIDLUQETHE_CIX_SCRUB = 13, /* Cix */
+    SIDLUQETHE_PUX = 14,
+    SIDLUQETHE_PUX_SCRUB = 15, /* PUx */
+    SIDLUQETHE_CUX = 16,
+    SIDLUQETHE_CUX_SCRUB = 17  /* CUx */
+};
+
+/* Refusals. */
+enum {
+    SIDLUQETHE_LONG_TEXT = 1,      /* text over 65,535 bytes */
+    SIDLUQETHE_BAD_PATH = 2,       /* path empty, over 4,095 bytes, not starting /, holding NUL or // */
+    SIDLUQETHE_BAD_ASKED = 3,      /* asked set 0 or over 127 */
+    SIDLUQETHE_BAD_FORM = 4,
+    SIDLUQETHE_NOT_TAKEN = 5,      /* word not taken */
+    SIDLUQETHE_BAD_VARIABLE = 6,
+    SIDLUQETHE_BAD_PATTERN = 7,
+    SIDLUQETHE_BAD_PERMISSIONS = 8,
+    SIDLUQETHE_TOO_MUCH = 9,       /* a size passed */
+    SIDLUQETHE_USED_TWICE = 10,    /* profile name used twice */
+    SIDLUQETHE_NO_PROFILE = 11     /* no profile with that name */
+};
+
+/* Writes the answer to a request into the buffer and returns SIDLUQETHE_ANSWER_BYTES. A buffer of fewer bytes
+ * stays as it was, and 0 is returned. owner is 0 where the file is not the step's own, any other number where it is.
+ * Text, name and path are only read; they need no terminating NUL. A pointer may not be null, even with length 0.
+ */
+size_t sidluqethe_decide(const uint8_t *text, size_t text_length,
+                         const uint8_t *name, size_t name_length,
+                         const uint8_t *path, size_t path_length,
+                         uint8_t asked, uint8_t owner,
+                         uint8_t *buffer, size_t buffer_length);
+
+#ifdef __cplusplus
+}
+#endif
+
+#endif
