@@ -1,0 +1,134 @@
+//! The library against the reference, on requests made from the grammar.
+
+mod generator;
+mod reference;
+mod vector;
+
+use generator::Stream;
+use reference::{Answer, Execute, Refusal};
+use std::collections::BTreeMap;
+use std::env;
+use std::time::Instant;
+use vector::{fields, Request};
+
+const SEED: u64 = 20_261_115;
+const REQUESTS: usize = 200_000;
+
+/// The run that counts: a fixed seed, at least 200,000 requests.
+#[test]
+fn differential() {
+    compare(SEED, REQUESTS);
+}
+
+/// A run of any length: `SIDLUQETHE_SEED`, `SIDLUQETHE_REQUESTS`.
+#[test]
+#[ignore = "as long as it is asked to be"]
+fn long() {
+    let seed = number("SIDLUQETHE_SEED", SEED + 1);
+    let requests = number("SIDLUQETHE_REQUESTS", 2_000_000);
+    compare(seed, requests as usize);
+}
+
+fn number(variable: &str, otherwise: u64) -> u64 {
+    match env::var(variable) {
+        Ok(given) => given.parse().expect("a number"),
+        Err(_) => otherwise,
+    }
+}
+
+fn compare(seed: u64, requests: usize) {
+    let start = Instant::now();
+    let mut spread = Spread::default();
+    let mut differences = 0;
+    for request in Stream::new(seed).take(requests) {
+        let expected = request.by_reference();
+        spread.count(&request, &expected);
+        let expected = fields(&expected);
+        let given = request.by_library();
+        if given != expected {
+            differences += 1;
+            println!("{}\t{expected}\n  the library: {given}", request.line());
+            assert!(differences < 20, "too many differences, seed {seed}");
+        }
+    }
+    println!(
+        "compared {requests} requests, seed {seed}, {:?}",
+        start.elapsed()
+    );
+    spread.print();
+    assert_eq!(differences, 0, "seed {seed}");
+}
+
+/// The generator reaches every kind of answer, by the reference alone.
+#[test]
+fn spread() {
+    let start = Instant::now();
+    let mut spread = Spread::default();
+    for request in Stream::new(SEED).take(REQUESTS) {
+        spread.count(&request, &request.by_reference());
+    }
+    println!(
+        "judged {REQUESTS} requests, seed {SEED}, {:?}",
+        start.elapsed()
+    );
+    spread.print();
+    let wanted = (1..=11).map(|number| format!("refused {number:2}"));
+    let modes = "ux Ux px Px cx Cx ix pix Pix cix Cix pux PUx cux CUx".split(' ');
+    let executes = ["-", "denied", "conflict"].into_iter().chain(modes);
+    let wanted = wanted.chain(executes.map(|execute| format!("execute {execute}")));
+    let others = [
+        "granted all",
+        "granted some",
+        "granted none",
+        "recorded",
+        "target",
+    ];
+    for kind in wanted.chain(others.map(String::from)) {
+        assert!(spread.of(&kind) >= 10, "{kind}: {}", spread.of(&kind));
+    }
+}
+
+/// How many answers there are of each kind.
+#[derive(Default)]
+struct Spread(BTreeMap<String, usize>);
+
+impl Spread {
+    fn add(&mut self, kind: impl Into<String>) {
+        *self.0.entry(kind.into()).or_default() += 1;
+    }
+
+    fn of(&self, kind: &str) -> usize {
+        self.0.get(kind).copied().unwrap_or(0)
+    }
+
+    fn count(&mut self, request: &Request, answer: &Result<Answer, Refusal>) {
+        let answer = match answer {
+            Err(refusal) => return self.add(format!("refused {:2}", refusal.number)),
+            Ok(answer) => answer,
+        };
+        self.add("answered");
+        self.add(match answer.granted {
+            0 => "granted none",
+            all if all == request.asked => "granted all",
+            _ => "granted some",
+        });
+        if answer.recorded != 0 {
+            self.add("recorded");
+        }
+        if answer.target.is_some() {
+            self.add("target");
+        }
+        self.add(match answer.execute {
+            Execute::NotAsked => "execute -".into(),
+            Execute::Denied => "execute denied".into(),
+            Execute::Conflict => "execute conflict".into(),
+            Execute::Mode(mode) => format!("execute {mode}"),
+        });
+    }
+
+    fn print(&self) {
+        for (kind, count) in &self.0 {
+            println!("{count:8}  {kind}");
+        }
+    }
+}
