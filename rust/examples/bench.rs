@@ -1,0 +1,252 @@
+//! Times `decide` against plain C functions and prints a Markdown table.
+//!
+//! `cargo run --release --example bench` measures everything in one run of
+//! under a minute. `bench RULES PATHS` only asks that many requests of one
+//! profile, for `valgrind --tool=callgrind`; `bench RULES PATHS read` the
+//! same with a profile name that the text lacks.
+
+use sidluqethe::{decide, Perms};
+use std::env;
+use std::ffi::CString;
+use std::hint::black_box;
+use std::time::Instant;
+
+/// The two C functions compared with.
+mod c {
+    use std::ffi::{c_char, c_int, c_void, CString};
+
+    extern "C" {
+        fn fnmatch(pattern: *const c_char, string: *const c_char, flags: c_int) -> c_int;
+        fn memchr(bytes: *const c_void, byte: c_int, count: usize) -> *const c_void;
+    }
+
+    /// `FNM_PATHNAME` of glibc and musl: wildcards don't match a `/`.
+    const FNM_PATHNAME: c_int = 1;
+
+    pub fn matches(pattern: &CString, path: &CString) -> bool {
+        // SAFETY: both are strings that end with NUL; they are only read.
+        unsafe { fnmatch(pattern.as_ptr(), path.as_ptr(), FNM_PATHNAME) == 0 }
+    }
+
+    pub fn holds(bytes: &[u8], byte: u8) -> bool {
+        // SAFETY: the pointer and the length are those of one slice.
+        unsafe { !memchr(bytes.as_ptr().cast(), byte.into(), bytes.len()).is_null() }
+    }
+}
+
+const PATHS: usize = 10_000;
+const ROUNDS: usize = 10;
+/// At most so many rules are weighed in a round.
+const WEIGHED: usize = 100_000;
+/// Short work is done so many times in a round.
+const PASSES: usize = 50;
+
+/// A seeded source of numbers (SplitMix64).
+struct Random(u64);
+
+impl Random {
+    fn below(&mut self, limit: usize) -> usize {
+        self.0 = self.0.wrapping_add(0x9e37_79b9_7f4a_7c15);
+        let mut z = self.0;
+        z = (z ^ (z >> 30)).wrapping_mul(0xbf58_476d_1ce4_e5b9);
+        z = (z ^ (z >> 27)).wrapping_mul(0x94d0_49bb_1331_11eb);
+        ((z ^ (z >> 31)) % limit as u64) as usize
+    }
+}
+
+/// The pattern of rule `n` and a path that it matches.
+fn rule(n: usize, r: usize) -> (String, String) {
+    let (pattern, path) = match n % 8 {
+        0 => (format!("/usr/share/x{n}/*"), format!("f{r}")),
+        1 => (format!("/var/lib/lab/run{n}/**"), format!("d{r}/out.txt")),
+        2 => (format!("/etc/lab/x{n}/main.conf"), "main.conf".into()),
+        3 => (
+            format!("/srv/data/set{n}/part-????.bin"),
+            format!("part-{:04}.bin", r % 10_000),
+        ),
+        4 => (
+            format!("/home/lab/job{n}/in/[a-f0-9]*.txt"),
+            format!("c{r}.txt"),
+        ),
+        5 => (format!("/opt/tools/v{n}/bin/*"), format!("tool{r}")),
+        6 => (format!("/tmp/lab-{n}/[^.]*.log"), format!("x{r}.log")),
+        _ => (
+            format!("/var/cache/lab/c{n}/**/o?"),
+            format!("d/{r}/o{}", r % 10),
+        ),
+    };
+    let directory = pattern.find(['*', '?', '[']).unwrap_or(pattern.len());
+    let directory = pattern[..directory].rfind('/').unwrap() + 1;
+    let path = format!("{}{path}", &pattern[..directory]);
+    (pattern, path)
+}
+
+/// A text of one profile with these patterns.
+fn text<'a>(patterns: impl Iterator<Item = &'a str>) -> Vec<u8> {
+    let rules: String = patterns.map(|p| format!("  {p} r,\n")).collect();
+    format!("profile lab {{\n{rules}}}\n").into_bytes()
+}
+
+/// A profile of so many rules, its patterns for C, and paths: about one in
+/// eight matches, the others miss early, by a number or at their end.
+struct Load {
+    text: Vec<u8>,
+    patterns: Vec<CString>,
+    paths: Vec<CString>,
+}
+
+fn load(rules: usize) -> Load {
+    let mut random = Random(rules as u64);
+    let patterns: Vec<String> = (0..rules).map(|n| rule(n, 0).0).collect();
+    let paths = (0..PATHS).map(|_| {
+        let (n, r) = (random.below(rules), random.below(100_000));
+        let path = match random.below(10) {
+            0 => rule(n, r).1,
+            1..=5 => rule(n + 1_000, r).1,
+            6..=7 => rule(n, r).1 + "/.more",
+            _ => format!("/proc/{r}/task/{n}/status"),
+        };
+        CString::new(path).unwrap()
+    });
+    Load {
+        text: text(patterns.iter().map(String::as_str)),
+        paths: paths.collect(),
+        patterns: patterns
+            .iter()
+            .map(|p| CString::new(p.as_str()).unwrap())
+            .collect(),
+    }
+}
+
+/// How many of the paths may be read.
+fn by_decide(text: &[u8], paths: &[CString]) -> usize {
+    let reads = |path: &&CString| {
+        let answer = decide(text, b"lab", path.as_bytes(), Perms::READ, false);
+        answer.expect("an accepted text").granted == Perms::READ
+    };
+    paths.iter().filter(reads).count()
+}
+
+/// Has the text read for each of the paths, and nothing matched.
+fn by_reading(text: &[u8], paths: &[CString]) -> usize {
+    let is_read = |path: &&CString| {
+        let answer = decide(text, b"absent", path.as_bytes(), Perms::READ, false);
+        answer.is_err_and(|refusal| refusal.number == 11)
+    };
+    paths.iter().filter(is_read).count()
+}
+
+/// How many of the paths some pattern matches; all patterns are tried, as
+/// `decide` weighs all rules.
+fn by_fnmatch(patterns: &[CString], paths: &[CString]) -> usize {
+    let matched = |path: &&CString| patterns.iter().filter(|p| c::matches(p, path)).count() > 0;
+    paths.iter().filter(matched).count()
+}
+
+fn line_feeds(bytes: &[u8]) -> usize {
+    let mut count = 0;
+    for &byte in bytes {
+        if byte == b'\n' {
+            count += 1;
+        }
+    }
+    count
+}
+
+/// Microseconds for each of `turns`, and the work's result.
+fn time<T>(turns: usize, work: impl FnOnce() -> T) -> (f64, T) {
+    let start = Instant::now();
+    let result = black_box(work());
+    (start.elapsed().as_secs_f64() * 1e6 / turns as f64, result)
+}
+
+/// The median of each column; of an even number of rows, the upper one.
+fn medians<const N: usize>(rows: &[[f64; N]]) -> [f64; N] {
+    std::array::from_fn(|column| {
+        let mut values: Vec<f64> = rows.iter().map(|row| row[column]).collect();
+        values.sort_by(f64::total_cmp);
+        values[values.len() / 2]
+    })
+}
+
+/// One row of the table: each round takes other paths and times the three
+/// in turn, so that a busy machine slows all of them.
+fn requests(rules: usize) {
+    let load = load(rules);
+    let asked = (PATHS / ROUNDS).min(WEIGHED / rules);
+    let (mut granted, mut matched) = (0, 0);
+    let mut rows = Vec::new();
+    for paths in load.paths.chunks(asked).take(ROUNDS) {
+        let (whole, count) = time(asked, || by_decide(&load.text, paths));
+        granted += count;
+        let (reading, count) = time(asked, || by_reading(&load.text, paths));
+        assert_eq!(count, asked);
+        let passes = || (0..PASSES).map(|_| by_fnmatch(&load.patterns, paths)).sum();
+        let (loops, count): (f64, usize) = time(asked * PASSES, passes);
+        matched += count / PASSES;
+        let (ratio, matching) = (whole / loops, (whole - reading) / loops);
+        let share = 100.0 * reading / whole;
+        rows.push([whole, reading, loops, ratio, matching, share]);
+    }
+    let [whole, reading, loops, ratio, matching, share] = medians(&rows);
+    let asked = asked * ROUNDS;
+    println!(
+        "| {rules} | {} | {asked} | {:.1}% | {:.1}% | {whole:.1} | {reading:.1} | {loops:.2} | {ratio:.0} | {matching:.0} | {share:.0}% | {:.0}% |",
+        load.text.len(),
+        100.0 * granted as f64 / asked as f64,
+        100.0 * matched as f64 / asked as f64,
+        100.0 - share,
+    );
+}
+
+fn reading() {
+    let patterns: Vec<String> = (0..512)
+        .map(|n| format!("/var/lib/lab/projects/department-{:02}/experiment-{n:04}/final-results/checkpoint-????/[a-f0-9]*/values/**", n % 37))
+        .collect();
+    let text = text(patterns.iter().map(String::as_str));
+    let path = [CString::new("/proc/1/status").unwrap()];
+    let mut rows = Vec::new();
+    for _ in 0..PASSES {
+        let (read, count) = time(1, || by_reading(&text, &path));
+        assert_eq!(count, 1);
+        let passes = || (0..PASSES).any(|_| c::holds(black_box(&text), 0));
+        let (find, found) = time(PASSES, passes);
+        assert!(!found);
+        let passes = || (0..PASSES).map(|_| line_feeds(black_box(&text))).sum();
+        let (lines, count): (f64, usize) = time(PASSES, passes);
+        assert_eq!(count, PASSES * 514);
+        rows.push([read, find, lines, read / find, read / lines]);
+    }
+    let [read, find, lines, by_find, by_lines] = medians(&rows);
+    let bytes = text.len();
+    let each = 1e3 * read / bytes as f64;
+    println!("Reading {bytes} bytes with 512 rules: {read:.0} µs, {each:.1} ns a byte.");
+    println!("Reading / a pass of memchr ({find:.2} µs): {by_find:.0}.");
+    println!("Reading / a loop that counts LFs ({lines:.2} µs): {by_lines:.0}.");
+}
+
+fn main() {
+    let arguments: Vec<String> = env::args().skip(1).collect();
+    if let [rules, paths, rest @ ..] = arguments.as_slice() {
+        let load = load(rules.parse().expect("RULES"));
+        let paths = &load.paths[..paths.parse().expect("PATHS")];
+        let work = if rest.is_empty() {
+            by_decide
+        } else {
+            by_reading
+        };
+        println!("{} of {}", work(&load.text, paths), paths.len());
+        return;
+    }
+    let start = Instant::now();
+    println!("Medians of {ROUNDS} rounds, per request; ratios and shares are taken in each round.");
+    println!("fnmatch takes `**` for `*`, so it matches less, and has no text to read.\n");
+    println!("| rules | text bytes | requests | granted | fnmatch matched | decide µs | reading µs | fnmatch loop µs | decide / fnmatch | matching / fnmatch | reading share | matching share |");
+    println!("|---|---|---|---|---|---|---|---|---|---|---|---|");
+    for rules in [10, 100, 500] {
+        requests(rules);
+    }
+    println!("\nMedians of {PASSES} rounds:\n");
+    reading();
+    println!("\n{:.0} s in all.", start.elapsed().as_secs_f64());
+}
