@@ -1,3 +1,4 @@
 pub mod Laws
 pub mod Alive
 pub mod Codes
+pub mod Front

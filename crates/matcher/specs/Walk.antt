@@ -4,7 +4,7 @@ use mathlib.Core.Path.{_≡_}
 use mathlib.Core.List.{List}
 use mathlib.Core.Bool.{Bool, true, false, _&&_, _||_}
 use lib.ListN.{length, take, drop, getD}
-use lib.Dec.{eqb, leb}
+use lib.Dec.{eqb, leb, ltb}
 use Rattle.class.specs.Class.{inClass}
 use Rattle.pattern.specs.Pieces.{Piece, Byte, One, Star, StarStar, Class}
 use Rattle.pattern.specs.Codes.{joinedCodes}
@@ -25,6 +25,10 @@ takesOf One b = noSlash b
 takesOf Star b = noSlash b
 takesOf StarStar b = true
 takesOf (Class k) b = inClass k b
+
+-- a byte stands at a place, of the kind that a piece takes
+abbrev pub takesAt : Piece → List ℕ → ℕ → Bool
+takesAt p s i = ltb i (length s) && takesOf p (getD s i 0)
 
 -- the mark of a place after a piece, by those at the place before it and at it, and the new mark before it
 abbrev pub markOf : (many before here carried ok : Bool) → Bool

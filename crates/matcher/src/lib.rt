@@ -7,7 +7,7 @@ ghost use lib.ListN.{length, getD, take, drop};
 ghost use Rattle.scan.specs.Bytes.{every, run, if_then_else_};
 ghost use Rattle.pattern.specs.Codes.{bracketed, decode, notClose};
 ghost use Rattle.matcher.specs.Match.{isLiteral, matches, someUpTo};
-ghost use Rattle.matcher.specs.Walk.{Joins, after, markOf, pathFits, repeatsOf, takesOf};
+ghost use Rattle.matcher.specs.Walk.{Joins, after, markOf, pathFits, repeatsOf, takesAt, takesOf};
 
 // The codes of pieces: a literal is its byte; then ?, * and **; a class is the place in the text of its first byte above CLASS.
 const ONE: u32 = 256;
@@ -129,8 +129,8 @@ fn step(marks: [bool; 4096], text: &[u8], code: u32, path: &[u8]) -> Marks
     }
 }
 
-// Whether all the pieces match the path.
-fn walk(text: &[u8], codes: &[u32], path: &[u8]) -> bool
+// Whether all the pieces match the path, by the places that are alive after each.
+fn walk_marks(text: &[u8], codes: &[u32], path: &[u8]) -> bool
     requires { ⌜ length (now path) ≤ 4095 ⌝ }
     ensures { λ r. ⌜ r ≡ matches (map (decode (now (text .entry))) (now (codes .entry))) (now (path .entry)) ⌝ }
 {
@@ -148,6 +148,37 @@ fn walk(text: &[u8], codes: &[u32], path: &[u8]) -> bool
     }
     let n = path.len();
     marks[n]
+}
+
+// Whether a byte stands at a place of the path, of the kind that a piece takes.
+fn takes_at(text: &[u8], code: u32, path: &[u8], at: usize) -> bool
+    ensures { λ r. ⌜ r ≡ takesAt (decode (now (text .entry)) code) (now (path .entry)) at ⌝ }
+{
+    if at < path.len() {
+        return takes(text, code, path[at]);
+    }
+    false
+}
+
+// Whether all the pieces match the path. In front of the first star each takes the byte at its own place, so marks are kept
+// from that star on.
+fn walk(text: &[u8], codes: &[u32], path: &[u8]) -> bool
+    requires { ⌜ length (now path) ≤ 4095 ⌝ }
+    ensures { λ r. ⌜ r ≡ matches (map (decode (now (text .entry))) (now (codes .entry))) (now (path .entry)) ⌝ }
+{
+    let mut k = 0;
+    while k < codes.len() {
+        let code = codes[k];
+        if repeats(code) {
+            return walk_marks(text, &codes[k..], &path[k..]);
+        }
+        if takes_at(text, code, path, k) {
+            k += 1;
+        } else {
+            return false;
+        }
+    }
+    k == path.len()
 }
 
 // Whether the first pieces, as many as counted, match a path of at most 4,095 bytes.
