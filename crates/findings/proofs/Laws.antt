@@ -15,6 +15,7 @@ use Rattle.text.specs.Reading.{Reading}
 use Rattle.text.specs.declared.Place.{Place}
 use Rattle.text.specs.declared.Stop.{Stop}
 use Rattle.pattern.specs.Expansions.{Variable}
+use Rattle.pattern.specs.Faults.{patternFault}
 use Rattle.matcher.specs.Match.{matchesSome, matchesExactly}
 use Rattle.matcher.specs.Walk.{pathFits}
 use Rattle.glob.specs.Glob.{matchedOf, textFits}
@@ -30,7 +31,10 @@ use Rattle.rules.specs.declared.Step.the-variants as step
 use Rattle.findings.specs.Findings.{Request, Move, Findings, Choice, Single, Several, allows, applies, audited, bits, choice, denies, exactly, findings, join, moveBy, moves, otherwise, sameMove, those}
 use Rattle.findings.specs.Weighed.{Fits, Weighed, allowing, denying, nothing, weighed, weighedBy, withMove, withTransition}
 use Rattle.findings.proofs.Joining.{findings-append}
-use Rattle.findings.proofs.Sound.{All, Sound, rules-sound}
+use Rattle.findings.proofs.Sound.{All, Sound, rule-sound, rules-sound}
+
+pub fitting : {text path : List ℕ} → Fits text path → (textFits text && pathFits path) ≡ true
+fitting {text} f = rw (le-leb (length text) 65535 (f .short)) (f .fits)
 
 -- ---- one transition more
 
@@ -122,7 +126,7 @@ module _ (vs : List Variable) (r : Rule) (h : Sound vs r) where
     pub weigh-one : (text : List ℕ) → Fits text (q .path) →
         weighedBy (q .owner) (matchedOf text vs (r .pattern) (q .path)) r (weighed f) ≡ weighed (join f (findings vs q (r ∷ [])))
     weigh-one text fits =
-        let e : (textFits text && pathFits (q .path)) ≡ true = rw (le-leb (length text) 65535 (fits .short)) (fits .fits) in
+        let e : (textFits text && pathFits (q .path)) ≡ true = fitting fits in
         ap (λ (m : Matched). weighedBy (q .owner) m r (weighed f)) (sym (matched-good text (q .path) vs (r .pattern) e (h .good)))
         ∙ sym weigh-joined
 
@@ -206,3 +210,9 @@ module _ (vs : List Variable) (s path : List ℕ) (owner : Bool) (at : ℕ) (w :
     pub gather-refused : {stop : Stop} → x ≡ step.Refused stop → gathered s vs path owner (rulesFrom (suc left) vs s at) w ≡ w
     unfolding gathered seenStep
     gather-refused q = from-step left x e ∙ rw q
+
+-- the pattern of a rule that was read has no fault
+pub read-good : (vs : List Variable) (s : List ℕ) (at : ℕ) {x : code.Step.Step} → seenStep s x ≡ ruleAt vs s at → {r : rule.Rule} {n : Place} → x ≡ step.Rule r n
+    → patternFault vs (spanOf s (r .pattern)) ≡ 0
+unfolding seenStep
+read-good vs s at e {r} {n} q = rule-sound vs s at (record { rule = ruleOf s r; next = n .0 }) (sym e ∙ ap (seenStep s) q) .good

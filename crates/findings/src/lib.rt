@@ -1,5 +1,5 @@
 // The findings of rules on a request.
-use glob::match_pattern;
+use glob::match_good;
 use perms::Mode;
 use perms::Perms;
 use perms::Transition;
@@ -13,6 +13,7 @@ ghost use mathlib.Core.Path.{_≡_};
 ghost use mathlib.Core.List.{List};
 ghost use Prim.Native.Nat.{ℕ};
 ghost use Rattle.scan.specs.Bytes.{if_then_else_};
+ghost use Rattle.pattern.specs.Faults.{patternFault};
 ghost use Rattle.pattern.specs.Table.{env};
 ghost use Rattle.sizes.specs.Sizes.{Known};
 ghost use Rattle.glob.specs.Glob.{matchedOf};
@@ -161,8 +162,8 @@ fn deny(text: &[u8], rule: Rule, found: Findings) -> Findings
     }
 }
 
-// The findings with one rule more, under the first n variables, whose sizes are known.
-pub fn weigh(
+// The findings with one rule more, whose pattern has no fault, under the first n variables, whose sizes are known.
+fn weigh(
     text: &[u8],
     vars: &[usize; 1120],
     n: usize,
@@ -173,6 +174,8 @@ pub fn weigh(
     found: Findings,
 ) -> Findings
     ensures { λ r. ⌜ (Known (now (text .entry)) (now (vars .entry)) n sizes →
+        Fits (now (text .entry)) (now (path .entry)) →
+        patternFault (env (now (text .entry)) (now (vars .entry)) n) (spanOf (now (text .entry)) (rule .pattern)) ≡ 0 →
         seenFindings (now (text .entry)) r
         ≡ weighedBy owner (matchedOf (now (text .entry)) (env (now (text .entry)) (now (vars .entry)) n) (spanOf (now (text .entry)) (rule .pattern)) (now (path .entry))) (ruleOf (now (text .entry)) rule) (seenFindings (now (text .entry)) found)) ⌝ }
 {
@@ -180,7 +183,7 @@ pub fn weigh(
         return found;
     }
     let pattern = rule.pattern;
-    let m = match_pattern(text, vars, n, sizes, pattern.from.0, pattern.end.0, path);
+    let m = match_good(text, vars, n, sizes, pattern.from.0, pattern.end.0, path);
     if m.some {
         if rule.deny {
             return deny(text, rule, found);

@@ -8,14 +8,17 @@ use sizes::pattern_size;
 use sizes::sizes_of;
 ghost use mathlib.Core.Path.{_≡_};
 ghost use mathlib.Core.List.{[]};
+ghost use mathlib.Core.Bool.{true, _&&_};
 ghost use Prim.Native.Nat.{ℕ, _<_};
 ghost use lib.ListN.{length, getD};
 ghost use Rattle.scan.specs.Bytes.{span};
 ghost use Rattle.pattern.specs.Expansions.{expansions};
+ghost use Rattle.pattern.specs.Faults.{patternFault};
 ghost use Rattle.pattern.specs.Table.{env};
 ghost use Rattle.sizes.specs.Sizes.{Known};
 ghost use Rattle.matcher.specs.Match.{matchesSome, matchesExactly};
-ghost use Rattle.glob.specs.Glob.{matchedOf, matchedBy, Within};
+ghost use Rattle.matcher.specs.Walk.{pathFits};
+ghost use Rattle.glob.specs.Glob.{matchedOf, matchedBy, textFits, Within};
 
 // Whether some expansion matches, and whether one of literals only does.
 pub struct Matched {
@@ -88,7 +91,26 @@ fn match_expansions(
     }
 }
 
-// The pattern from a to before e against a path, the sizes of the first n variables being known.
+// The pattern from a to before e against a path, the sizes of the first n variables being known, where the text and the path fit
+// and the pattern has no fault.
+pub fn match_good(
+    text: &[u8],
+    vars: &[usize; 1120],
+    n: usize,
+    sizes: Sizes,
+    a: usize,
+    e: usize,
+    path: &[u8],
+) -> Matched
+    ensures { λ r. ⌜ (Known (now (text .entry)) (now (vars .entry)) n sizes →
+        (textFits (now (text .entry)) && pathFits (now (path .entry))) ≡ true →
+        patternFault (env (now (text .entry)) (now (vars .entry)) n) (span (now (text .entry)) a e) ≡ 0 →
+        r ≡ matchedOf (now (text .entry)) (env (now (text .entry)) (now (vars .entry)) n) (span (now (text .entry)) a e) (now (path .entry))) ⌝ }
+{
+    match_expansions(text, vars, n, sizes, a, e, path)
+}
+
+// The same for every text, path and pattern: what does not fit or has a fault matches nothing.
 pub fn match_pattern(
     text: &[u8],
     vars: &[usize; 1120],
@@ -104,7 +126,7 @@ pub fn match_pattern(
     if (text.len() <= 65535) & (path.len() <= 4095) {
         let fault = pattern_fault(text, vars, n, sizes, a, e);
         if fault == 0 {
-            return match_expansions(text, vars, n, sizes, a, e, path);
+            return match_good(text, vars, n, sizes, a, e, path);
         }
     }
     Matched {

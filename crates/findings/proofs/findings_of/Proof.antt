@@ -6,15 +6,15 @@ use mathlib.Core.Path.{_≡_, sym, _∙_}
 use Rattle.pattern.specs.Table.{env}
 use Rattle.sizes.specs.Sizes.{Known}
 use Rattle.rules.specs.Steps.{rulesFrom}
-use Rattle.findings.specs.Weighed.{nothing, seenFindings}
-use Rattle.findings.proofs.Laws.{gathered, gathered-rules, gather-more, gather-close, gather-refused, gather-end}
+use Rattle.findings.specs.Weighed.{Fits, nothing, seenFindings}
+use Rattle.findings.proofs.Laws.{gathered, gathered-rules, gather-more, gather-close, gather-refused, gather-end, read-good}
 use Rattle.findings.proofs.findings_of.Statement.{statement}
 use Rattle.findings.proofs.findings_of.Tie as tie
 
 abbrev Inv-loop : tie.InvT-loop
 Inv-loop text vars n sizes path owner count found₀ place₀ i₀ found place i =
     (i ≤ count)
-    × (Known text vars n sizes →
+    × (Known text vars n sizes → Fits text path →
     gathered text (env text vars n) path owner (rulesFrom (count - i) (env text vars n) text (place .0)) (seenFindings text found)
     ≡ gathered text (env text vars n) path owner (rulesFrom count (env text vars n) text (place₀ .0)) nothing)
 
@@ -25,7 +25,7 @@ no-findings-requires : tie.Need-no-findings-requires Inv-loop μ-loop
 no-findings-requires c κs = search needs
 
 loop-holds : tie.Need-loop-holds Inv-loop μ-loop
-loop-holds c = let e : c .before .before .before .args .count - 0 ≡ c .before .before .before .args .count = omega arith in (omega arith, λ k. rw (e, c .no-findings .ensures (now (c .before .before .before .args .text))))
+loop-holds c = let e : c .before .before .before .args .count - 0 ≡ c .before .before .before .args .count = omega arith in (omega arith, λ k fits. rw (e, c .no-findings .ensures (now (c .before .before .before .args .text))))
 
 rule-at-requires : tie.Need-rule-at-requires Inv-loop μ-loop
 rule-at-requires c κs = search needs
@@ -51,9 +51,9 @@ loop-again c =
     let w = seenFindings s (l .found) in
     let e : a .count - l .i ≡ suc (a .count - (l .i + 1)) = omega arith in (
       omega arith,
-      λ k. rw (c .weigh .ensures k)
+      λ k fits. rw (c .weigh .ensures k fits (read-good vs s (l .place .0) (c .before .before .before .before .rule-at .ensures .0 k) (c .before .before .r .given .1)))
           (sym (gather-more vs s (now (a .path)) (a .owner) (l .place .0) w (a .count - (l .i + 1)) (c .before .before .before .before .rule-at .ensures .0 k) (c .before .before .r .given .1))
-          ∙ (rw e at (l .inv .1 k))),
+          ∙ (rw e at (l .inv .1 k fits))),
     )
 
 enum-told : tie.Need-enum-told Inv-loop μ-loop
@@ -69,7 +69,7 @@ returns c =
     let e : a .count - l .i ≡ suc (a .count - (l .i + 1)) = omega arith in
     λ k fits asked.
     sym (gather-close vs s (now (a .path)) (a .owner) (l .place .0) w (a .count - (l .i + 1)) (c .before .before .rule-at .ensures .0 k) (c .enum-told .given .1))
-    ∙ (rw e at (l .inv .1 k))
+    ∙ (rw e at (l .inv .1 k fits))
     ∙ gathered-rules s vs (record { path = now (a .path); asked = asked; owner = a .owner }) fits (a .count) (a .at .0)
 
 enum-told-2 : tie.Need-enum-told-2 Inv-loop μ-loop
@@ -85,7 +85,7 @@ returns-2 c =
     let e : a .count - l .i ≡ suc (a .count - (l .i + 1)) = omega arith in
     λ k fits asked.
     sym (gather-refused vs s (now (a .path)) (a .owner) (l .place .0) w (a .count - (l .i + 1)) (c .before .before .rule-at .ensures .0 k) (c .enum-told2 .given .1))
-    ∙ (rw e at (l .inv .1 k))
+    ∙ (rw e at (l .inv .1 k fits))
     ∙ gathered-rules s vs (record { path = now (a .path); asked = asked; owner = a .owner }) fits (a .count) (a .at .0)
 
 returns-3 : tie.Need-returns-3 Inv-loop μ-loop
@@ -98,7 +98,7 @@ returns-3 c =
     let e : a .count - l .i ≡ 0 = omega arith in
     λ k fits asked.
     sym (gather-end vs s (now (a .path)) (a .owner) (l .place .0) w)
-    ∙ (rw e at (l .inv .1 k))
+    ∙ (rw e at (l .inv .1 k fits))
     ∙ gathered-rules s vs (record { path = now (a .path); asked = asked; owner = a .owner }) fits (a .count) (a .at .0)
 
 pub findings-of-spec : {M : Type 1} → statement M
