@@ -21,20 +21,21 @@ ends s k h = go (drop k s) (length-drop k s)
     go [] e = sym (eq-eqb k (length s) (omega arith))
     go (b ∷ r) e = sym (ne-eqb k (length s) (λ q. omega arith))
 
-module _ (d : ℕ → Piece) (codes path : List ℕ) (k : ℕ) where
-  abbrev pub ahead : ℕ → Bool
-  ahead i = matches (map d (drop i codes)) (drop i path)
+-- what is left from a place on
+abbrev pub ahead : (ℕ → Piece) → (codes path : List ℕ) → ℕ → Bool
+ahead d codes path i = matches (map d (drop i codes)) (drop i path)
 
+module _ (d : ℕ → Piece) (codes path : List ℕ) (k : ℕ) where
   -- the next piece is no star
   module _ (h : k < length codes) (e : repeatsOf (d (getD codes k 0)) ≡ false) where
-    one : k < length path → ahead k ≡ (takesOf (d (getD codes k 0)) (getD path k 0) && ahead (k + 1))
+    one : k < length path → ahead d codes path k ≡ (takesOf (d (getD codes k 0)) (getD path k 0) && ahead d codes path (k + 1))
     one l =
         let s : k + 1 ≡ suc k = omega arith in
         rw (drop-cons codes k 0 h, drop-cons path k 0 l, s)
         (matches-one (d (getD codes k 0)) (map d (drop (suc k) codes)) (getD path k 0) (drop (suc k) path) e)
 
     -- and its byte is there, or not
-    pub front-more : takesAt (d (getD codes k 0)) path k ≡ true → ahead k ≡ ahead (k + 1)
+    pub front-more : takesAt (d (getD codes k 0)) path k ≡ true → ahead d codes path k ≡ ahead d codes path (k + 1)
     front-more t =
         let l : k < length path = ltb-true k (length path) (and-l (ltb k (length path)) (takesOf (d (getD codes k 0)) (getD path k 0)) t) in
         one l ∙ rw (and-r (ltb k (length path)) (takesOf (d (getD codes k 0)) (getD path k 0)) t)
@@ -42,10 +43,10 @@ module _ (d : ℕ → Piece) (codes path : List ℕ) (k : ℕ) where
     pub front-inside : takesAt (d (getD codes k 0)) path k ≡ true → k < length path
     front-inside t = ltb-true k (length path) (and-l (ltb k (length path)) (takesOf (d (getD codes k 0)) (getD path k 0)) t)
 
-    pub front-dead : takesAt (d (getD codes k 0)) path k ≡ false → ahead k ≡ false
+    pub front-dead : takesAt (d (getD codes k 0)) path k ≡ false → ahead d codes path k ≡ false
     front-dead t = go (ltb k (length path)) refl
       where
-        go : (b : Bool) → ltb k (length path) ≡ b → ahead k ≡ false
+        go : (b : Bool) → ltb k (length path) ≡ b → ahead d codes path k ≡ false
         go true q = let l : k < length path = ltb-true k (length path) q in one l ∙ rw (takes-not q)
           where
             takes-not : ltb k (length path) ≡ true → takesOf (d (getD codes k 0)) (getD path k 0) ≡ false
@@ -55,6 +56,6 @@ module _ (d : ℕ → Piece) (codes path : List ℕ) (k : ℕ) where
             rw (drop-cons codes k 0 h, drop-of-length-le path l) (matches-nil (d (getD codes k 0)) (map d (drop (suc k) codes)) ∙ rw e)
 
   -- no piece is left: the path must end there
-  pub front-done : length codes ≤ k → k ≤ length path → ahead k ≡ eqb k (length path)
+  pub front-done : length codes ≤ k → k ≤ length path → ahead d codes path k ≡ eqb k (length path)
   unfolding matches
   front-done h l = rw (drop-of-length-le codes h) (ends path k l)

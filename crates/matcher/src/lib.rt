@@ -166,19 +166,19 @@ fn walk(text: &[u8], codes: &[u32], path: &[u8]) -> bool
     requires { ⌜ length (now path) ≤ 4095 ⌝ }
     ensures { λ r. ⌜ r ≡ matches (map (decode (now (text .entry))) (now (codes .entry))) (now (path .entry)) ⌝ }
 {
-    let mut k = 0;
-    while k < codes.len() {
-        let code = codes[k];
+    let mut i = 0;
+    while i < codes.len() {
+        let code = codes[i];
         if repeats(code) {
-            return walk_marks(text, &codes[k..], &path[k..]);
+            return walk_marks(text, &codes[i..], &path[i..]);
         }
-        if takes_at(text, code, path, k) {
-            k += 1;
+        if takes_at(text, code, path, i) {
+            i += 1;
         } else {
             return false;
         }
     }
-    k == path.len()
+    i == path.len()
 }
 
 // Whether the first pieces, as many as counted, match a path of at most 4,095 bytes.

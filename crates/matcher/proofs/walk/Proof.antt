@@ -16,11 +16,11 @@ behind : (s : List ℕ) (k : ℕ) → take (length s - k) (drop k s) ≡ drop k 
 behind s k = take-all (length s - k) (drop k s) (omega (arith, length-drop k s))
 
 abbrev Inv-loop : tie.InvT-loop
-Inv-loop text codes path k₀ k =
-    (k ≤ length codes) × ((k ≤ length path) × (matches (map (decode text) codes) path ≡ ahead (decode text) codes path k k))
+Inv-loop text codes path i₀ i =
+    (i ≤ length codes) × ((i ≤ length path) × (matches (map (decode text) codes) path ≡ ahead (decode text) codes path i))
 
 abbrev μ-loop : tie.MeasureT-loop
-μ-loop text codes path k₀ k = length codes - k
+μ-loop text codes path i₀ i = length codes - i
 
 loop-holds : tie.Need-loop-holds Inv-loop μ-loop
 loop-holds c = (omega arith, (omega arith, refl))
@@ -63,13 +63,13 @@ returns c =
     let a = c .before .before .before .before .before .before .before .before .before .before .before .args in
     let l = c .before .before .before .before .before .before .before .loop in
     let d = decode (now (a .text)) in
-    c .walk-marks .ensures ∙ ap₂ matches (ap (map d) (behind (now (a .codes)) (l .k))) (behind (now (a .path)) (l .k)) ∙ sym (l .inv .1 .1)
+    c .walk-marks .ensures ∙ ap₂ matches (ap (map d) (behind (now (a .codes)) (l .i))) (behind (now (a .path)) (l .i)) ∙ sym (l .inv .1 .1)
 
 takes-at-requires : tie.Need-takes-at-requires Inv-loop μ-loop
 takes-at-requires c κs = search needs
 
-add-k : tie.Need-add-k Inv-loop μ-loop
-add-k c = search needs
+add-i : tie.Need-add-i Inv-loop μ-loop
+add-i c = search needs
 
 loop-less : tie.Need-loop-less Inv-loop μ-loop
 loop-less c = search needs
@@ -81,7 +81,7 @@ loop-again c =
     let d = decode (now (a .text)) in
     let e = sym (c .before .before .before .repeats .ensures (now (a .text))) ∙ c .before .before .if1 .left in
     let t = sym (c .before .takes-at .ensures) ∙ c .if2 .taken in
-    (omega arith, (omega (arith, front-inside d (now (a .codes)) (now (a .path)) (l .k) (omega arith) e t), l .inv .1 .1 ∙ front-more d (now (a .codes)) (now (a .path)) (l .k) (omega arith) e t))
+    (omega arith, (omega (arith, front-inside d (now (a .codes)) (now (a .path)) (l .i) (omega arith) e t), l .inv .1 .1 ∙ front-more d (now (a .codes)) (now (a .path)) (l .i) (omega arith) e t))
 
 returns-2 : tie.Need-returns-2 Inv-loop μ-loop
 returns-2 c =
@@ -90,14 +90,14 @@ returns-2 c =
     let d = decode (now (a .text)) in
     let e = sym (c .before .before .before .repeats .ensures (now (a .text))) ∙ c .before .before .if1 .left in
     let t = sym (c .before .takes-at .ensures) ∙ c .if2 .left in
-    sym (l .inv .1 .1 ∙ front-dead d (now (a .codes)) (now (a .path)) (l .k) (omega arith) e t)
+    sym (l .inv .1 .1 ∙ front-dead d (now (a .codes)) (now (a .path)) (l .i) (omega arith) e t)
 
 returns-3 : tie.Need-returns-3 Inv-loop μ-loop
 returns-3 c =
     let a = c .before .before .before .before .before .args in
     let l = c .before .loop in
     let d = decode (now (a .text)) in
-    sym (l .inv .1 .1 ∙ front-done d (now (a .codes)) (now (a .path)) (l .k) (omega arith) (l .inv .1 .0))
+    sym (l .inv .1 .1 ∙ front-done d (now (a .codes)) (now (a .path)) (l .i) (omega arith) (l .inv .1 .0))
 
 pub walk-spec : {M : Type 1} → statement M
 walk-spec =
@@ -119,7 +119,7 @@ walk-spec =
     walk-marks-requires
     returns
     takes-at-requires
-    add-k
+    add-i
     loop-less
     loop-again
     returns-2
