@@ -152,17 +152,18 @@ fn put_set(title: &[u8], set: Perms) {
 
 // Writes what a mode means.
 fn put_mode(mode: Mode, target: Target) {
+    let bytes = target.bytes;
     let kind = mode.kind;
     let fallback = mode.fallback;
     match kind {
         Kind::Unconfined => put(b"runs unconfined"),
         Kind::Profile => {
             put(b"runs under the profile ");
-            put_target(target, b"named for the program");
+            put_target(bytes, target.len, b"named for the program");
         }
         Kind::Child => {
             put(b"runs under the child profile ");
-            put_target(target, b"named for the program");
+            put_target(bytes, target.len, b"named for the program");
         }
         Kind::Inherit => put(b"keeps this profile"),
     }

@@ -95,6 +95,7 @@ fn put_answer(a: Answer) {
     let verdict = a.verdict;
     let execute = a.execute;
     let target = a.target;
+    let bytes = target.bytes;
     match verdict {
         Verdict::Refused(refusal) => {
             put(b"refused\t");
@@ -110,7 +111,7 @@ fn put_answer(a: Answer) {
             put(b"\t");
             put_execute(execute);
             put(b"\t");
-            put_target(target, b"-");
+            put_target(bytes, target.len, b"-");
             put(b"\n");
         }
     }

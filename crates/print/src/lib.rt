@@ -1,9 +1,9 @@
 // Writing to standard output, for the programs.
-use answer::Target;
 use libc::STDOUT_FILENO;
 use perms::Execute;
 ghost use mathlib.Core.Path.{_≡_};
-ghost use lib.ListN.{length};
+ghost use mathlib.Core.Bool.{not};
+ghost use lib.Dec.{eqb};
 
 // Writes these bytes.
 pub fn put(bytes: &[u8]) {
@@ -40,22 +40,16 @@ pub fn put_execute(execute: Execute) {
     }
 }
 
-// The bytes of a target.
-fn bytes_of(target: Target) -> [u8; 255]
-    ensures { λ r. ⌜ 255 ≡ length r ⌝ }
+// Writes the first bytes of a target, as many as counted, or these words where it has none, and answers whether it has any.
+pub fn put_target(bytes: [u8; 255], len: usize, none: &[u8]) -> bool
+    ensures { λ r. ⌜ r ≡ not (eqb len 0) ⌝ }
 {
-    target.bytes
-}
-
-// Writes a target, or these words where there is none.
-pub fn put_target(target: Target, none: &[u8]) {
-    let n = target.len;
-    if n == 0 {
+    if len == 0 {
         put(none);
-        return;
+        return false;
     }
-    if n <= 255 {
-        let bytes = bytes_of(target);
-        put(&bytes[..n]);
+    if len <= 255 {
+        put(&bytes[..len]);
     }
+    true
 }

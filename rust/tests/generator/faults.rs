@@ -2,32 +2,10 @@
 
 use super::draft::{Draft, Gap, Token};
 use super::rng::Rng;
+use crate::reference::text::FIXED;
 
-/// Tokens that seldom fit where they are put.
+/// Tokens that seldom fit where they are put, besides the fixed words.
 const ODD: &[&str] = &[
-    "include",
-    "abi",
-    "alias",
-    "capability",
-    "network",
-    "mount",
-    "remount",
-    "umount",
-    "pivot_root",
-    "ptrace",
-    "signal",
-    "dbus",
-    "unix",
-    "change_profile",
-    "set",
-    "link",
-    "hat",
-    "file",
-    "mqueue",
-    "io_uring",
-    "userns",
-    "all",
-    "priority",
     "priority=1",
     "priority=\"1\"",
     "^hat",
@@ -163,6 +141,15 @@ const ODD: &[&str] = &[
     "é",
 ];
 
+/// A fixed word or an odd token.
+fn odd_word(rng: &mut Rng) -> &'static str {
+    let i = rng.below(FIXED.len() + ODD.len());
+    match i.checked_sub(FIXED.len()) {
+        None => FIXED[i],
+        Some(rest) => ODD[rest],
+    }
+}
+
 const BYTES: &[u8] = b"\0\"#\\\n\r \t,{}[]^@=+->*?/ax.rwp";
 
 /// One or two faults in the tokens.
@@ -190,7 +177,7 @@ pub fn tokens(rng: &mut Rng, draft: &mut Draft) {
 
 fn odd(rng: &mut Rng) -> Token {
     let gap = *rng.pick(&[Gap::Some, Gap::Some, Gap::Any, Gap::SomeInLine]);
-    let bytes = rng.word(ODD).into();
+    let bytes = odd_word(rng).into();
     Token { bytes, gap }
 }
 
@@ -242,7 +229,7 @@ pub fn pattern_soup(rng: &mut Rng) -> Vec<u8> {
 pub fn token_soup(rng: &mut Rng) -> Vec<u8> {
     let mut text = Vec::new();
     for _ in 0..rng.below(12) {
-        text.extend(rng.word(ODD).as_bytes());
+        text.extend(odd_word(rng).as_bytes());
         text.extend(rng.word(&[" ", " ", "\n", "", ","]).as_bytes());
     }
     text

@@ -5,7 +5,7 @@
 
 mod judge;
 mod pattern;
-mod text;
+pub mod text;
 
 /// A refusal's number and line.
 #[derive(Clone, Copy, Debug, PartialEq, Eq)]

@@ -14,7 +14,7 @@ const EXPANSIONS: u64 = 256;
 const PIECES: u64 = 1_024;
 
 /// "one of these fixed words"
-const FIXED: [&str; 23] = [
+pub const FIXED: [&str; 23] = [
     "include",
     "abi",
     "alias",
