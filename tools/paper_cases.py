@@ -152,11 +152,39 @@ for path, m in [("/a", 1), ("/b/a", 1)]: rule("slashes join over an empty choice
 refused("an expansion without a first `/`", "@{A}=/x y\n" + P("@{A} r,"), 7, 2)
 refused("an expansion that begins with a star", "@{A}=*\n" + P("@{A} r,"), 7, 2)
 
+# ---- patterns: a match with no class and no star is exact, told by the transition beside another rule's
+HOW = {"exactly": "64 0 ix -", "matches": "0 64 conflict -", "no": "64 0 px -"}
+def how(note, pattern, path, answer, pre=""):
+    add("%s: `%s` on `%s`" % (note, pattern[:60], path[:60]), pre + P(pattern + " ix, /** px,"), path, 64, HOW[answer])
+for path, answer in [("/x/z", "exactly"), ("/xy/z", "exactly"), ("/xyy/z", "no")]: how("exact", "/x{,y}/z", path, answer)
+for pattern, path, answer in [
+    ("/***", "/a/b", "matches"), ("/a***b", "/a/x/b", "matches"), ("/*", "/a", "matches"), ("/*", "/a/b", "no"), ("/**", "/a/b", "matches"),
+    ("/a?b", "/axb", "matches"), ("/a?b", "/a/b", "no"), ("/x[^a]y", "/x/y", "matches"), ("/x[^a]y", "/xay", "no"),
+    ("/x//y", "/x/y", "exactly"), ("/a\\*", "/a*", "exactly"), ("/a\\*", "/ab", "no"),
+]: how("exact", pattern, path, answer)
+how("exact", "@{H}/notes", "/home/notes", "exactly", "@{H}=/home/\n")
+for pattern, path, number in [("/x[a", "/x[a", 7), ("/x^", "/x^", 7), ("/@{B}", "/@{B}", 6), ("x", "/x", 7)]:
+    refused("a refused pattern on its own bytes: `%s`" % pattern, P(pattern + " ix, /** px,"), number, path=path, asked=64)
+letters = "".join("@{%s}=a b c d\n" % name for name in "ABCDE")
+for path, answer in [("/a", "exactly"), ("/d", "exactly"), ("/y", "exactly"), ("/e", "no")]: how("5 expansions", "/{@{A},y}", path, answer, letters)
+refused("5 expansions, one without a first `/`", letters + P("{@{A},y} r,"), 7, 6)
+for path, answer in [("/dcba", "exactly"), ("/dcbe", "no")]: how("256 expansions", "/@{A}@{B}@{C}@{D}", path, answer, letters)
+refused("257 expansions", letters + P("/{@{A}@{B}@{C}@{D},y} r,"), 9, 6, path="/dcba")
+refused("1,024 expansions", letters + P("/@{A}@{B}@{C}@{D}@{E} r,"), 9, 6, path="/dcbaa")
+value = "@{V}=%s\n" % ("a" * 1023)
+how("1,024 pieces", "/@{V}", "/" + "a" * 1023, "exactly", value)
+refused("1,025 pieces", value + P("//@{V} r,"), 9, 2, path="/" + "a" * 1023)
+for n in (1024, 1025):
+    add("value of %d bytes, not used" % n, "@{V}=%s\n" % ("a" * n) + P("/a r,"), expected="1 0 - -" if n == 1024 else "refused 9 1 -")
+how("longest path", "/**", "/" + "a" * 4094, "matches")
+add("path of one byte more", P("/** ix, /** px,"), "/" + "a" * 4095, 64, "refused 2 0 -")
+
 # ---- permissions
 for bit, letter in enumerate("rwamlkx"):
     written = "ix" if letter == "x" else letter
     carried = {"w": 6}.get(letter, 1 << bit)
     add("`%s` carries %d" % (written, carried), P("/a %s," % written), asked=63 if letter != "x" else 127, expected="%d %d %s -" % (carried, (63 if letter != "x" else 127) - carried, "ix" if letter == "x" else "-"))
+add("letters with a mode", P("/a rwPx,"), asked=127, expected="71 56 Px -")
 add("letters repeatable", P("/a rwrwkk,"), asked=63, expected="39 24 - -")
 refused("`w` with `a`", P("/a wa,"), 8)
 refused("`a` with `w`", P("/a arw,"), 8)

@@ -13,8 +13,8 @@ use borrow.Author.Tests.{eqb-true}
 use Rattle.scan.specs.Bytes.{every, if_then_else_}
 use Rattle.perms.specs.Sets.{has, setOf, perms, without, within}
 use Rattle.perms.specs.declared.Perms.{Perms}
-use Rattle.perms.specs.declared.Execute.{Execute}
-use Rattle.perms.specs.declared.Execute.the-variants.{NotAsked, Denied, Conflict, ByMode}
+use Rattle.modes.specs.declared.Execute.{Execute}
+use Rattle.modes.specs.declared.Execute.the-variants.{NotAsked, Denied, Conflict, ByMode}
 use Rattle.perms.proofs.Laws.{and-left, has-and, has-or, has-set, has-within, has-without, set-eq, set-lt, within-has}
 use Rattle.findings.specs.Findings.{Move, Findings, Choice, None, Single, Several, choice, sameMove}
 use Rattle.answer.specs.Answers.{preferred, x, executeOf, grants, isMode, moveOf, namedBy, records, targetOf}

@@ -6,8 +6,8 @@ use lib.ListN.{length, replicate}
 use lib.Dec.{eqb}
 use Rattle.scan.specs.Bytes.{if_then_else_}
 use Rattle.perms.specs.Sets.{has, setOf, perms}
-use Rattle.perms.specs.declared.Execute.{Execute}
-use Rattle.perms.specs.declared.Execute.the-variants.{NotAsked, Denied, Conflict, ByMode}
+use Rattle.modes.specs.declared.Execute.{Execute}
+use Rattle.modes.specs.declared.Execute.the-variants.{NotAsked, Denied, Conflict, ByMode}
 use Rattle.findings.specs.Findings.{Move, Findings, Choice, None, Single, Several, choice}
 use Rattle.answer.specs.declared.Answer.{Answer}
 use Rattle.answer.specs.declared.Target.{Target}

@@ -6,8 +6,8 @@ use mathlib.Core.Bool.{Bool, true, false, not, _||_, _&&_}
 use lib.Dec.{eqb}
 use Rattle.scan.specs.Bytes.{if_then_else_}
 use Rattle.perms.specs.Sets.{has}
-use Rattle.perms.specs.declared.Execute.{Execute}
-use Rattle.perms.specs.declared.Execute.the-variants.{NotAsked}
+use Rattle.modes.specs.declared.Execute.{Execute}
+use Rattle.modes.specs.declared.Execute.the-variants.{NotAsked}
 use Rattle.findings.specs.Findings.{Choice, None, Single, Several}
 use Rattle.answer.specs.Answers.{chosen, x}
 

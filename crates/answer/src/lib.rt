@@ -1,7 +1,7 @@
 // The answer that findings give.
 use findings::Choice;
 use findings::Findings;
-use perms::Execute;
+use modes::Execute;
 use perms::Perms;
 use text::Refusal;
 ghost use mathlib.Core.Path.{_≡_};

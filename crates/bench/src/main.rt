@@ -1,4 +1,6 @@
 // Holds a pattern to a path many times, to be timed. Call: bench CASE TURNS
+use faults::pattern_fault;
+use glob::match_good;
 use libc::STDERR_FILENO;
 use libc::STDOUT_FILENO;
 use scan::same_bytes;
@@ -157,22 +159,33 @@ fn number(text: &[u8]) -> usize {
     n
 }
 
-fn one(hit: bool) -> usize
+// 1 where the pattern from a to before e has no fault and matches the path, else 0.
+fn hit(
+    text: &[u8],
+    vars: &[usize; 1120],
+    sizes: &[usize; 132],
+    a: usize,
+    e: usize,
+    path: &[u8],
+) -> usize
     ensures { λ r. ⌜ r ≤ 1 ⌝ }
 {
-    if hit { 1 } else { 0 }
+    if pattern_fault(text, vars, COUNT, sizes, a, e) != 0 {
+        return 0;
+    }
+    let m = match_good(text, vars, COUNT, sizes, a, e, path);
+    if m.some { 1 } else { 0 }
 }
 
 // How many of the turns match.
 fn matches(text: &[u8], vars: &[usize; 1120], case: Case, path: &[u8], turns: usize) -> usize {
-    let sizes = sizes::sizes_of(text, vars, COUNT);
+    let sizes = measure::sizes_of(text, vars, COUNT);
     let a = case.start;
     let e = case.end;
     let mut hits = 0;
     let mut i = 0;
     while i < turns {
-        let m = glob::match_pattern(text, vars, COUNT, sizes, a, e, path);
-        hits += one(m.some);
+        hits += hit(text, vars, &sizes.table, a, e, path);
         i += 1;
     }
     hits

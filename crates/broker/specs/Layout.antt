@@ -1,7 +1,7 @@
 -- The bytes of an answer as C gets them.
 use Prim.Native.Nat.{ℕ, _/_, _%_}
 use mathlib.Core.List.{List, [], _∷_, _++_}
-use Rattle.perms.specs.Modes.{executeNumber}
+use Rattle.modes.specs.Modes.{executeNumber}
 use Rattle.text.specs.declared.Refusal.{Refusal}
 use Rattle.answer.specs.declared.Answer.{Answer}
 use Rattle.answer.specs.declared.Verdict.{Verdict}

@@ -1,4 +1,5 @@
 // Classes of a pattern.
+use scan::is_between;
 ghost use mathlib.Core.Path.{_≡_};
 ghost use Prim.Native.Nat.{_<_};
 ghost use lib.ListN.{length, drop};
@@ -57,13 +58,6 @@ fn next(class: &[u8], at: usize) -> usize
         return at + 3;
     }
     at + 1
-}
-
-// Whether a byte is in a range.
-fn is_between(low: u8, high: u8, b: u8) -> bool
-    ensures { λ r. ⌜ r ≡ between low high b ⌝ }
-{
-    (low <= b) & (b <= high)
 }
 
 // Whether some range from a place on holds the byte.

@@ -12,18 +12,17 @@ use native.Mathlib.Omega.{arith}
 use Rattle.scan.specs.Bytes.{begins, holds, isEmpty, same}
 use Rattle.class.proofs.Laws.{begins-with}
 use Rattle.text.specs.Reading.{Reading, Read, Refused}
-use Rattle.text.specs.Tokens.{nul}
+use Rattle.blanks.specs.Blanks.{nul}
 use Rattle.pattern.specs.Expansions.{Variable}
-use Rattle.pattern.specs.Table.{bytesAt}
+use Rattle.pattern.specs.Table.{bytesAt, env}
 use Rattle.matcher.specs.Walk.{pathFits}
-use Rattle.rules.specs.Steps.{rulesFrom}
+use Rattle.statement.specs.Steps.{rulesFrom}
 use Rattle.faults.proofs.Laws.{empty-no}
-use Rattle.preamble.specs.Places.{held}
 use Rattle.profile.specs.Profiles.{File, fileOf}
 use Rattle.profile.specs.Places.{Judged, Accepted, Rejected, judgedOf, profilesFrom, seenFile}
 use Rattle.profile.specs.declared.FileRead.{FileRead}
 use Rattle.findings.specs.Findings.{Request, Move, Findings, Single, findings}
-use Rattle.findings.proofs.Sound.{All, ShortMove, choice-short, rules-short}
+use Rattle.weigh.proofs.Sound.{All, ShortMove, choice-short, rules-short}
 use Rattle.answer.specs.Answers.{answerFrom, moveOf, preferred, refusal}
 use Rattle.answer.specs.Short.{Short}
 use Rattle.answer.specs.declared.Answer.{Answer}
@@ -103,6 +102,11 @@ answer-found vs q s t (suc k) i name = go (same (bytesAt s t (4 * i)) name) (ans
     go true e = refl
     go false e = e
 
+-- by what was found
+pub answer-by : (vs : List Variable) (q : Request) (s t : List ℕ) (k : ℕ) (name : List ℕ) (r : Found) → r ≡ foundFrom s t k 0 name →
+    (x : Found) → r ≡ x → answerIn vs q name (profilesFrom vs s t k 0) ≡ answerOfFound vs q s x
+answer-by vs q s t k name r e x f = answer-found vs q s t k 0 name ∙ ap (answerOfFound vs q s) (sym e ∙ f)
+
 -- ---- the text's judgement
 
 abbrev pub answerOfJudged : Request → (name : List ℕ) → Judged → Answer
@@ -113,15 +117,6 @@ pub answer-judged : (s : List ℕ) (x : Reading File) (n : List ℕ) (q : Reques
 unfolding judgedOf
 answer-judged s (Read f) n q = refl
 answer-judged s (Refused number place) n q = refl
-
-module _ (s : List ℕ) (r : FileRead) where
-  pub seen-rejected : r .refused ≡ true → seenFile s r ≡ Rejected (r .refusal .number) (r .refusal .line)
-  unfolding seenFile
-  seen-rejected e = rw e
-
-  pub seen-accepted : r .refused ≡ false → seenFile s r ≡ Accepted (held s (r .vars)) (profilesFrom (held s (r .vars)) s (r .profiles .table) (r .profiles .count) 0)
-  unfolding seenFile
-  seen-accepted e = rw e
 
 -- ---- the whole answer, by the order of refusals
 
@@ -139,13 +134,27 @@ module _ (text n path : List ℕ) (asked : ℕ) (owner : Bool) where
   answer-asked h e k = rw (le-ltb 65535 (length text) h, answerOf, e, k)
 
   -- what was read decides
-  pub answer-read : length text ≤ 65535 → badPath path ≡ false → badAsked asked ≡ false → {j : Judged} → j ≡ judgedOf text (fileOf text)
-      → answerOf text n path asked owner ≡ answerOfJudged (record { path = path; asked = asked; owner = owner }) n j
-  unfolding answerOf
-  answer-read h e k {j} r =
-      rw (le-ltb 65535 (length text) h, answerOf, e, k)
-      (answer-judged text (fileOf text) n (record { path = path; asked = asked; owner = owner })
-      ∙ ap (answerOfJudged (record { path = path; asked = asked; owner = owner }) n) (sym r))
+  module _ (h : length text ≤ 65535) (e : badPath path ≡ false) (k : badAsked asked ≡ false) (t : List ℕ) (r : FileRead) (g : seenFile text t r ≡ judgedOf text (fileOf text)) where
+    abbrev request : Request
+    request = record { path = path; asked = asked; owner = owner }
+
+    answer-read : {j : Judged} → seenFile text t r ≡ j → answerOf text n path asked owner ≡ answerOfJudged request n j
+    unfolding answerOf
+    answer-read {j} f =
+        rw (le-ltb 65535 (length text) h, answerOf, e, k)
+        (answer-judged text (fileOf text) n request ∙ ap (answerOfJudged request n) (sym g ∙ f))
+
+    pub answer-rejected : r .refused ≡ true → answerOf text n path asked owner ≡ refusal (r .refusal .number) (r .refusal .line)
+    unfolding seenFile
+    answer-rejected f = answer-read {j = Rejected (r .refusal .number) (r .refusal .line)} (rw f)
+
+    pub answer-accepted : r .refused ≡ false → {a : Answer} →
+        a ≡ answerIn (env text t (r .vars)) request n (profilesFrom (env text t (r .vars)) text (r .profiles) (r .count) 0) →
+        a ≡ answerOf text n path asked owner
+    unfolding seenFile
+    answer-accepted f i =
+        let vs = env text t (r .vars) in
+        i ∙ sym (answer-read {j = Accepted vs (profilesFrom vs text (r .profiles) (r .count) 0)} (rw f))
 
 -- ---- targets
 

@@ -7,7 +7,7 @@ use lib.ListN.{length}
 use lib.Dec.{eqb, ltb}
 use Rattle.scan.specs.Bytes.{begins, holds, isEmpty, same}
 use Rattle.text.specs.Reading.{Reading, Read, Refused, lineOf}
-use Rattle.text.specs.Tokens.{nul}
+use Rattle.blanks.specs.Blanks.{nul}
 use Rattle.pattern.specs.Expansions.{Variable}
 use Rattle.preamble.specs.Variables.{finalSets}
 use Rattle.profile.specs.Profiles.{File, Profile, fileOf}

@@ -2,18 +2,17 @@
 use answer::Answer;
 use answer::finish;
 use answer::refused;
-use findings::findings_of;
-use pattern::begins_at;
 use perms::Perms;
-use profile::FileRead;
 use profile::read;
+use scan::begins_at;
 use text::Place;
+use weigh::findings_of;
 ghost use mathlib.Core.Path.{_≡_};
 ghost use Prim.Native.Nat.{_≤_};
 ghost use Rattle.sizes.specs.Sizes.{Known};
-ghost use Rattle.preamble.specs.Places.{held};
+ghost use Rattle.pattern.specs.Table.{env};
 ghost use Rattle.profile.specs.Places.{profilesFrom};
-ghost use Rattle.findings.specs.Weighed.{Fits};
+ghost use Rattle.weigh.specs.Weigh.{Fits};
 ghost use Rattle.decide.specs.Decide.{answerIn, answerOf, badAsked, badPath, doubled};
 ghost use Rattle.decide.specs.Places.{foundFrom};
 
@@ -83,28 +82,29 @@ fn find(text: &[u8], table: &[usize; 128], n: usize, name: &[u8]) -> Found
     Found::Nowhere
 }
 
-// The answer of an accepted text.
-fn answer_in(
+// The answer of an accepted text, by its first n variables, their sizes, and its profiles.
+fn answer_in<'a>(
     text: &[u8],
-    f: FileRead,
+    vars: &[usize; 1120],
+    n: usize,
+    sizes: &'a [usize; 132],
+    profiles: &'a [usize; 128],
+    count: usize,
     name: &[u8],
     path: &[u8],
     asked: Perms,
     owner: bool,
 ) -> Answer
-    requires { ⌜ f .profiles .count ≤ 32 ⌝ }
-    requires { ⌜ Known (now text) (f .vars .table) (f .vars .count) (f .sizes) ⌝ }
+    requires { ⌜ count ≤ 32 ⌝ }
+    requires { ⌜ Known (now text) (now vars) n (now sizes) ⌝ }
     requires { ⌜ Fits (now text) (now path) ⌝ }
-    ensures { λ r. ⌜ r ≡ answerIn (held (now (text .entry)) (f .vars)) (record { path = now (path .entry); asked = asked .0; owner = owner }) (now (name .entry)) (profilesFrom (held (now (text .entry)) (f .vars)) (now (text .entry)) (f .profiles .table) (f .profiles .count) 0) ⌝ }
+    ensures { λ r. ⌜ r ≡ answerIn (env (now (text .entry)) (now (vars .entry)) n) (record { path = now (path .entry); asked = asked .0; owner = owner }) (now (name .entry)) (profilesFrom (env (now (text .entry)) (now (vars .entry)) n) (now (text .entry)) (now (profiles .entry)) count 0) ⌝ }
 {
-    let profiles = f.profiles;
-    let vars = f.vars;
-    let sizes = f.sizes;
-    let r = find(text, &profiles.table, profiles.count, name);
-    let Found::Rules { at, count } = r else {
+    let r = find(text, profiles, count, name);
+    let Found::Rules { at, count: rules } = r else {
         return refused(NO_PROFILE, 0);
     };
-    let found = findings_of(text, &vars.table, vars.count, sizes, path, owner, count, at);
+    let found = findings_of(text, vars, n, sizes, path, owner, rules, at);
     finish(text, found, asked)
 }
 
@@ -121,10 +121,22 @@ pub fn decide(text: &[u8], name: &[u8], path: &[u8], asked: Perms, owner: bool) 
     if is_bad_asked(asked) {
         return refused(BAD_ASKED, 0);
     }
-    let f = read(text);
+    let mut vars = [0usize; 1120];
+    let f = read(text, &mut vars);
     let refusal = f.refusal;
     if f.refused {
         return refused(refusal.number, refusal.line);
     }
-    answer_in(text, f, name, path, asked, owner)
+    answer_in(
+        text,
+        &vars,
+        f.vars,
+        &f.sizes,
+        &f.profiles,
+        f.count,
+        name,
+        path,
+        asked,
+        owner,
+    )
 }

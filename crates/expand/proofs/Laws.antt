@@ -15,9 +15,14 @@ use Rattle.pattern.specs.Pieces.{Piece, Part, part}
 use Rattle.pattern.specs.Items.{Single, Among, item, isClosed, alternatives, body}
 use Rattle.pattern.specs.Places.{partAt, partOf, itemAt, itemOf}
 use Rattle.pattern.specs.Codes.{decode}
-use Rattle.pattern.specs.Expansions.{Variable, across, longest}
-use Rattle.sizes.specs.declared.Sizes.{Sizes}
-use Rattle.sizes.specs.Sizes.{Known, valueChoices}
+use Rattle.pattern.specs.Expansions.{Variable, across, listing, longest}
+use Rattle.pattern.specs.Reads.{seenPart, seenItem}
+use Rattle.pattern.specs.Table.{env, numberOf, ofNumber}
+use Rattle.pattern.specs.declared.ItemRead.{ItemRead}
+use Rattle.pattern.specs.declared.PartRead.{PartRead}
+use Rattle.pattern.specs.declared.PartRead.the-variants.{Use}
+use Rattle.pattern.proofs.Laws.{number-le, number-of}
+use Rattle.sizes.specs.Sizes.{Known, partChoices, valueChoices}
 use Rattle.sizes.proofs.Across.{Split, split, here, there}
 use Rattle.expand.specs.declared.Choice.{Choice}
 use Rattle.expand.specs.Write.{Asked, Wrote, Chosen, Written}
@@ -112,7 +117,7 @@ pub record Writing (text out : List ℕ) (m : ℕ) (end : List ℕ) (r left : �
   pub small : left < 257
 
 module _ {text out : List ℕ} {m : ℕ} where
-  pub writing-none : {vars : List ℕ} {n : ℕ} {sizes : Sizes} {d : ℕ} {xs : List (List Piece)} →
+  pub writing-none : {vars : List ℕ} {n : ℕ} {sizes : List ℕ} {d : ℕ} {xs : List (List Piece)} →
       Asked text vars n sizes xs d out m → Writing text out m out m d xs (getD xs d [])
   writing-none q = record { done = []; wrote = wrote-nil text out m (q .room); number = refl; within = q .within; small = q .small }
 
@@ -121,7 +126,7 @@ module _ {text out : List ℕ} {m : ℕ} where
     digits : Split xs later left c
     digits = split xs later left c k (p .small) (rw e at (p .within))
 
-    pub writing-asks : {vars : List ℕ} {n : ℕ} {sizes : Sizes} {d : ℕ} → Known text vars n sizes → length text ≤ 65535 →
+    writing-asks : {vars : List ℕ} {n : ℕ} {sizes : List ℕ} {d : ℕ} → Known text vars n sizes → length text ≤ 65535 →
         (0 < c → d ≡ left % c) → Asked text vars n sizes xs d end r
     writing-asks known short low =
         rw (low (digits .positive))
@@ -133,7 +138,7 @@ module _ {text out : List ℕ} {m : ℕ} where
           room = rw (p .wrote .size) (p .wrote .fits);
         })
 
-    pub writing-more : {next : List ℕ} {w d q : ℕ} → (0 < c → d ≡ left % c) → (0 < c → q ≡ left / c) → Wrote text end r next w (getD xs d []) →
+    writing-more : {next : List ℕ} {w d q : ℕ} → (0 < c → d ≡ left % c) → (0 < c → q ≡ left / c) → Wrote text end r next w (getD xs d []) →
         Writing text out m next w q later ends
     writing-more low high w =
         let l = low (digits .positive) in
@@ -149,6 +154,12 @@ module _ {text out : List ℕ} {m : ℕ} where
           within = digits .high;
           small = digits .highSmall;
         })
+
+    -- a turn of the loop: the next piece is asked for, and written
+    pub writing-turn : {vars : List ℕ} {n : ℕ} {sizes : List ℕ} {next : List ℕ} {w d q : ℕ} → Known text vars n sizes → length text ≤ 65535 →
+        (0 < c → d ≡ left % c) → (0 < c → q ≡ left / c) → (Asked text vars n sizes xs d end r → Wrote text end r next w (getD xs d [])) →
+        Writing text out m next w q later ends
+    writing-turn known short low high f = writing-more low high (f (writing-asks known short low))
 
   pub writing-all : {end : List ℕ} {r left : ℕ} {rest : List (List Piece)} {ends : List Piece} → Writing text out m end r left rest ends →
       rest ≡ [] ∷ [] → Wrote text out m end r ends
@@ -188,17 +199,27 @@ pub choosing-chosen : {text : List ℕ} {vs : List Variable} {r : Choice} {xs : 
 choosing-chosen p = record { small = p .small; within = p .within; same = p .same }
 
 -- the chosen expansion is written for the one that was asked
-module _ {text : List ℕ} {vs : List Variable} {r : Choice} {ys : List (List Piece)} {d : ℕ} (p : Chosen text vs r ys d) where
-  pub chosen-asks : {vars : List ℕ} {n k m : ℕ} {sizes : Sizes} {xs : List (List Piece)} {out : List ℕ} →
-      Asked text vars n sizes xs d out m → Known text vars k sizes →
-      Asked text vars k sizes (valueChoices vs (span text (r .start) (r .end))) (r .digit) out m
-  chosen-asks q known = record { known = known; short = q .short; small = p .small; within = p .within; room = q .room }
+pub chosen-writes : {text : List ℕ} {vs : List Variable} {c : Choice} {vars sizes out end : List ℕ} {n k m d w : ℕ} (xs ys : List (List Piece)) →
+    xs ≡ ys → Asked text vars n sizes xs d out m → Known text vars k sizes → Chosen text vs c ys d →
+    (Asked text vars k sizes (valueChoices vs (span text (c .start) (c .end))) (c .digit) out m →
+    Wrote text out m end w (getD (valueChoices vs (span text (c .start) (c .end))) (c .digit) [])) →
+    Wrote text out m end w (getD xs d [])
+chosen-writes xs ys e q known p f =
+    rw (e, ← p .same) (f (record { known = known; short = q .short; small = p .small; within = p .within; room = q .room }))
 
-  pub chosen-wrote : {out end : List ℕ} {m w : ℕ} {xs : List (List Piece)} → xs ≡ ys →
-      Wrote text out m end w (getD (valueChoices vs (span text (r .start) (r .end))) (r .digit) []) → Wrote text out m end w (getD xs d [])
-  chosen-wrote e w = rw (e, ← p .same) w
+-- ---- a variable that is used, by its number
 
--- ---- an item that is one part
+module _ (text vars : List ℕ) (n r a e : ℕ) (h : r ≡ numberOf text vars (min 32 n) (span text a e)) where
+  pub named-le : r ≤ min 32 n
+  named-le = omega (arith, number-le text vars (span text a e) (min 32 n))
+
+  pub named-choices : (p : PartRead) → p ≡ Use a e → partChoices (env text vars n) (seenPart text p) ≡ ofNumber listing text vars r
+  named-choices p k = rw (k, h) (number-of text vars (span text a e) listing (min 32 n))
+
+-- ---- an item, as the code reads it
+
+pub item-read : (text s : List ℕ) (at : ℕ) (r i : ItemRead) → seenItem text r ≡ itemAt s at → r ≡ i → itemAt s at ≡ seenItem text i
+item-read text s at r i h e = rw e at (sym h)
 
 pub item-single : (s : List ℕ) (i : ℕ) (p : Part) → itemAt s i ≡ Single p → itemAt s i ≡ Single (partAt s i)
 unfolding item

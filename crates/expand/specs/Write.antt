@@ -7,12 +7,11 @@ use Rattle.scan.specs.Bytes.{span}
 use Rattle.pattern.specs.Pieces.{Piece}
 use Rattle.pattern.specs.Codes.{decode}
 use Rattle.pattern.specs.Expansions.{Variable}
-use Rattle.sizes.specs.declared.Sizes.{Sizes}
 use Rattle.sizes.specs.Sizes.{Known, valueChoices}
 use Rattle.expand.specs.declared.Choice.{Choice}
 
 -- the sizes are right, the text is short, d is the number of one of xs, and the buffer has its first m places
-pub record Asked (text vars : List ℕ) (n : ℕ) (sizes : Sizes) (xs : List (List Piece)) (d : ℕ) (out : List ℕ) (m : ℕ) : Type 0 where
+pub record Asked (text vars : List ℕ) (n : ℕ) (sizes : List ℕ) (xs : List (List Piece)) (d : ℕ) (out : List ℕ) (m : ℕ) : Type 0 where
   pub known : Known text vars n sizes
   pub short : length text ≤ 65535
   pub small : d < 257

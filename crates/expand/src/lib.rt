@@ -1,21 +1,18 @@
 // One expansion of a pattern, by its number, written as codes to a lent buffer.
+use ends::item_end;
+use ends::part_end;
+use ends::seek;
+use measure::item_size;
+use measure::part_size;
+use measure::value_size;
+use parts::item_at;
+use parts::part_at;
+use parts::piece_code;
 use pattern::ItemRead;
 use pattern::PartRead;
-use pattern::item_at;
-use pattern::item_end;
-use pattern::named;
-use pattern::part_at;
-use pattern::part_end;
-use pattern::piece_code;
-use pattern::seek;
+use scan::least;
 use scan::span;
-use sizes::Sizes;
-use sizes::item_size;
-use sizes::least;
-use sizes::part_size;
-use sizes::pattern_size;
-use sizes::sizes_of;
-use sizes::value_size;
+use variables::named;
 ghost use mathlib.Core.Path.{_≡_};
 ghost use mathlib.Core.List.{List, _∷_, []};
 ghost use Prim.Native.Nat.{ℕ, _+_, _/_, _%_, _≤_, _<_};
@@ -68,9 +65,9 @@ fn high(d: usize, c: usize) -> usize
 }
 
 // The value of the variable w that holds expansion d of the variable.
-fn pick_value(text: &[u8], vars: &[usize; 1120], w: usize, sizes: Sizes, d: usize) -> Choice
+fn pick_value(text: &[u8], vars: &[usize; 1120], w: usize, sizes: &[usize; 132], d: usize) -> Choice
     requires { ⌜ w < 32 ⌝ }
-    ensures { λ r. ⌜ (Known (now (text .entry)) (now (vars .entry)) w sizes → d < 257 → d < length (ofNumber listing (now (text .entry)) (now (vars .entry)) (w + 1)) →
+    ensures { λ r. ⌜ (Known (now (text .entry)) (now (vars .entry)) w (now (sizes .entry)) → d < 257 → d < length (ofNumber listing (now (text .entry)) (now (vars .entry)) (w + 1)) →
         Chosen (now (text .entry)) (env (now (text .entry)) (now (vars .entry)) w) r (ofNumber listing (now (text .entry)) (now (vars .entry)) (w + 1)) d) ⌝ }
 {
     let m = least(16, vars[64 + w]);
@@ -104,12 +101,12 @@ fn pick_alternative(
     text: &[u8],
     vars: &[usize; 1120],
     n: usize,
-    sizes: Sizes,
+    sizes: &[usize; 132],
     a: usize,
     e: usize,
     d: usize,
 ) -> Choice
-    ensures { λ r. ⌜ (Known (now (text .entry)) (now (vars .entry)) n sizes → d < 257 →
+    ensures { λ r. ⌜ (Known (now (text .entry)) (now (vars .entry)) n (now (sizes .entry)) → d < 257 →
         d < length (oneChoices (env (now (text .entry)) (now (vars .entry)) n) (alternatives (span (now (text .entry)) a e))) →
         Chosen (now (text .entry)) (env (now (text .entry)) (now (vars .entry)) n) r
         (oneChoices (env (now (text .entry)) (now (vars .entry)) n) (alternatives (span (now (text .entry)) a e))) d) ⌝ }
@@ -144,13 +141,13 @@ fn write_part(
     n: usize,
     text: &[u8],
     vars: &[usize; 1120],
-    sizes: Sizes,
+    sizes: &[usize; 132],
     p: PartRead,
     d: usize,
     out: &mut [u32],
     m: usize,
 ) -> usize
-    ensures { λ r. ⌜ (Asked (now (text .entry)) (now (vars .entry)) n sizes (partChoices (env (now (text .entry)) (now (vars .entry)) n) (seenPart (now (text .entry)) p)) d (now (out .entry)) m →
+    ensures { λ r. ⌜ (Asked (now (text .entry)) (now (vars .entry)) n (now (sizes .entry)) (partChoices (env (now (text .entry)) (now (vars .entry)) n) (seenPart (now (text .entry)) p)) d (now (out .entry)) m →
         codeIn p ≤ 65536 + length (now (text .entry)) →
         Wrote (now (text .entry)) (now (out .entry)) m (now (out .exit)) r (getD (partChoices (env (now (text .entry)) (now (vars .entry)) n) (seenPart (now (text .entry)) p)) d [])) ⌝ }
 {
@@ -173,14 +170,14 @@ fn write_value(
     n: usize,
     text: &[u8],
     vars: &[usize; 1120],
-    sizes: Sizes,
+    sizes: &[usize; 132],
     a: usize,
     e: usize,
     d: usize,
     out: &mut [u32],
     m: usize,
 ) -> usize
-    ensures { λ r. ⌜ (Asked (now (text .entry)) (now (vars .entry)) n sizes (valueChoices (env (now (text .entry)) (now (vars .entry)) n) (span (now (text .entry)) a e)) d (now (out .entry)) m →
+    ensures { λ r. ⌜ (Asked (now (text .entry)) (now (vars .entry)) n (now (sizes .entry)) (valueChoices (env (now (text .entry)) (now (vars .entry)) n) (span (now (text .entry)) a e)) d (now (out .entry)) m →
         Wrote (now (text .entry)) (now (out .entry)) m (now (out .exit)) r (getD (valueChoices (env (now (text .entry)) (now (vars .entry)) n) (span (now (text .entry)) a e)) d [])) ⌝ }
 {
     let s = span(text, a, e);
@@ -203,7 +200,7 @@ fn write_item(
     n: usize,
     text: &[u8],
     vars: &[usize; 1120],
-    sizes: Sizes,
+    sizes: &[usize; 132],
     a: usize,
     e: usize,
     at: usize,
@@ -211,7 +208,7 @@ fn write_item(
     out: &mut [u32],
     m: usize,
 ) -> usize
-    ensures { λ r. ⌜ (Asked (now (text .entry)) (now (vars .entry)) n sizes (itemChoices (env (now (text .entry)) (now (vars .entry)) n) (itemAt (span (now (text .entry)) a e) at)) d (now (out .entry)) m →
+    ensures { λ r. ⌜ (Asked (now (text .entry)) (now (vars .entry)) n (now (sizes .entry)) (itemChoices (env (now (text .entry)) (now (vars .entry)) n) (itemAt (span (now (text .entry)) a e) at)) d (now (out .entry)) m →
         Wrote (now (text .entry)) (now (out .entry)) m (now (out .exit)) r (getD (itemChoices (env (now (text .entry)) (now (vars .entry)) n) (itemAt (span (now (text .entry)) a e) at)) d [])) ⌝ }
 {
     let i = item_at(text, a, e, at);
@@ -232,13 +229,13 @@ pub fn write_pattern(
     text: &[u8],
     vars: &[usize; 1120],
     n: usize,
-    sizes: Sizes,
+    sizes: &[usize; 132],
     a: usize,
     e: usize,
     d: usize,
     out: &mut [u32],
 ) -> usize
-    ensures { λ r. ⌜ (Known (now (text .entry)) (now (vars .entry)) n sizes → length (now (text .entry)) ≤ 65535 → d < 257 →
+    ensures { λ r. ⌜ (Known (now (text .entry)) (now (vars .entry)) n (now (sizes .entry)) → length (now (text .entry)) ≤ 65535 → d < 257 →
         d < length (expansions (env (now (text .entry)) (now (vars .entry)) n) (span (now (text .entry)) a e)) →
         Written (now (text .entry)) (now (out .entry)) (now (out .exit)) r (getD (expansions (env (now (text .entry)) (now (vars .entry)) n) (span (now (text .entry)) a e)) d [])) ⌝ }
 {

@@ -3,10 +3,9 @@ use form::pattern_form;
 use form::pattern_names;
 use form::value_form;
 use form::value_names;
+use measure::pattern_size;
 use scan::span;
 use sizes::Size;
-use sizes::Sizes;
-use sizes::pattern_size;
 ghost use mathlib.Core.Path.{_≡_};
 ghost use Rattle.scan.specs.Bytes.{span};
 ghost use Rattle.pattern.specs.Faults.{valueFault, patternFault};
@@ -52,11 +51,11 @@ pub fn pattern_fault(
     text: &[u8],
     vars: &[usize; 1120],
     n: usize,
-    sizes: Sizes,
+    sizes: &[usize; 132],
     a: usize,
     e: usize,
 ) -> u8
-    ensures { λ r. ⌜ (Known (now (text .entry)) (now (vars .entry)) n sizes → r ≡ patternFault (env (now (text .entry)) (now (vars .entry)) n) (span (now (text .entry)) a e)) ⌝ }
+    ensures { λ r. ⌜ (Known (now (text .entry)) (now (vars .entry)) n (now (sizes .entry)) → r ≡ patternFault (env (now (text .entry)) (now (vars .entry)) n) (span (now (text .entry)) a e)) ⌝ }
 {
     let s = span(text, a, e);
     if 1024 < s.len() {

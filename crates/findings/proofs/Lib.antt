@@ -1,3 +1,2 @@
 pub mod Joining
-pub mod Sound
 pub mod Laws

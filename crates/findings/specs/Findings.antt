@@ -6,10 +6,10 @@ use mathlib.Core.Bool.{Bool, true, false, not, _||_, _&&_}
 use lib.Bits.{bitOr}
 use Rattle.scan.specs.Bytes.{every, same, some, if_then_else_}
 use Rattle.perms.specs.Sets.{has, setOf}
-use Rattle.perms.specs.Modes.{sameMode}
-use Rattle.perms.specs.declared.Mode.{Mode}
-use Rattle.perms.specs.declared.Transition.{Transition}
-use Rattle.perms.specs.declared.Transition.the-variants.{Absent, ByMode}
+use Rattle.modes.specs.Modes.{sameMode}
+use Rattle.modes.specs.declared.Mode.{Mode}
+use Rattle.modes.specs.declared.Transition.{Transition}
+use Rattle.modes.specs.declared.Transition.the-variants.{Absent, ByMode}
 use Rattle.pattern.specs.Expansions.{Variable}
 use Rattle.matcher.specs.Match.{matchesSome, matchesExactly}
 use Rattle.rule.specs.Rules.{Rule}

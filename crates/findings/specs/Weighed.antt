@@ -1,18 +1,15 @@
 -- Findings as they are gathered rule by rule: of a set of transitions only whether it has no member, one or more.
-use Prim.Native.Nat.{ℕ, _≤_}
+use Prim.Native.Nat.{ℕ}
 use mathlib.Core.Path.{_≡_}
 use mathlib.Core.List.{List}
-use mathlib.Core.Bool.{Bool, true, not, _||_, _&&_}
+use mathlib.Core.Bool.{Bool, not}
 use lib.Bits.{bitOr}
-use lib.ListN.{length}
 use Rattle.scan.specs.Bytes.{if_then_else_}
 use Rattle.perms.specs.declared.Perms.{Perms}
-use Rattle.perms.specs.declared.Transition.{Transition}
-use Rattle.perms.specs.declared.Transition.the-variants.{Absent, ByMode}
-use Rattle.matcher.specs.Walk.{pathFits}
-use Rattle.glob.specs.declared.Matched.{Matched}
+use Rattle.modes.specs.declared.Transition.{Transition}
+use Rattle.modes.specs.declared.Transition.the-variants.{Absent, ByMode}
 use Rattle.rule.specs.Rules.{Rule}
-use Rattle.rule.specs.Places.{spanOf}
+use Rattle.text.specs.Places.{spanOf}
 use Rattle.findings.specs.Findings.{Move, Findings, Choice, None, Single, Several, choice, sameMove}
 use Rattle.findings.specs.declared as code
 use Rattle.findings.specs.declared.Choice.the-variants as choices
@@ -76,11 +73,6 @@ denying r w =
       others = w .others;
     }
 
--- a rule more, by how its pattern matches and whether the request is the owner's
-unfoldable pub weighedBy : (owner : Bool) → Matched → Rule → Weighed → Weighed
-weighedBy owner m r w =
-    if (not (r .owner) || owner) && m .some then (if r .deny then denying r w else allowing (m .exact) r w) else w
-
 -- ---- what the code's values mean over the text
 
 unfoldable pub seenChoice : List ℕ → code.Choice.Choice → Choice
@@ -103,10 +95,3 @@ seenFindings s f =
 pub record Carries (before : code.Carried.Carried) (audit : Bool) (perms : Perms) (after : code.Carried.Carried) : Type 0 where
   pub all : after .all .0 ≡ bitOr (before .all .0) (perms .0)
   pub audited : after .audited .0 ≡ (if audit then bitOr (before .audited .0) (perms .0) else before .audited .0)
-
--- ---- premises
-
--- the text and the path are within the sizes of document 01
-pub record Fits (text path : List ℕ) : Type 0 where
-  pub short : length text ≤ 65535
-  pub fits : pathFits path ≡ true

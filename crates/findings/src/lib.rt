@@ -1,26 +1,15 @@
-// The findings of rules on a request.
-use glob::match_good;
-use perms::Mode;
+// The findings of rules on a request, gathered one matching rule at a time.
+use modes::Mode;
+use modes::Transition;
 use perms::Perms;
-use perms::Transition;
 use rule::Rule;
-use rule::Span;
-use rules::Step;
-use rules::rule_at;
-use sizes::Sizes;
-use text::Place;
+use text::Span;
 ghost use mathlib.Core.Path.{_≡_};
-ghost use mathlib.Core.List.{List};
-ghost use Prim.Native.Nat.{ℕ};
 ghost use Rattle.scan.specs.Bytes.{if_then_else_};
-ghost use Rattle.pattern.specs.Faults.{patternFault};
-ghost use Rattle.pattern.specs.Table.{env};
-ghost use Rattle.sizes.specs.Sizes.{Known};
-ghost use Rattle.glob.specs.Glob.{matchedOf};
-ghost use Rattle.rule.specs.Places.{ruleOf, spanOf};
-ghost use Rattle.rules.specs.Steps.{rulesFrom};
-ghost use Rattle.findings.specs.Findings.{findings, sameMove};
-ghost use Rattle.findings.specs.Weighed.{Carries, Fits, allowing, denying, nothing, seenChoice, seenFindings, weighed, weighedBy, withMove, withTransition};
+ghost use Rattle.rule.specs.Places.{ruleOf};
+ghost use Rattle.text.specs.Places.{spanOf};
+ghost use Rattle.findings.specs.Findings.{sameMove};
+ghost use Rattle.findings.specs.Weighed.{Carries, allowing, denying, seenChoice, seenFindings, withMove, withTransition};
 
 // The members of a set of transitions: none, one, or more.
 pub enum Choice {
@@ -41,24 +30,6 @@ pub struct Findings {
     pub denied: Carried,
     pub exact: Choice,
     pub others: Choice,
-}
-
-// The findings of no rule.
-fn no_findings() -> Findings
-    ensures { λ r. ⌜ ((s : List ℕ) → seenFindings s r ≡ nothing) ⌝ }
-{
-    Findings {
-        allowed: Carried {
-            all: Perms(0),
-            audited: Perms(0),
-        },
-        denied: Carried {
-            all: Perms(0),
-            audited: Perms(0),
-        },
-        exact: Choice::None,
-        others: Choice::None,
-    }
 }
 
 // What is carried with a rule more.
@@ -85,7 +56,7 @@ fn same_move(text: &[u8], a: Mode, from: Span, b: Mode, to: Span) -> bool
 {
     let first = scan::span(text, from.from.0, from.end.0);
     let second = scan::span(text, to.from.0, to.end.0);
-    perms::same_mode(a, b) & scan::same_bytes(first, second)
+    modes::same_mode(a, b) & scan::same_bytes(first, second)
 }
 
 // A set of transitions with one member more.
@@ -127,7 +98,7 @@ fn with_transition(
 }
 
 // The findings with a matching allow rule more, which matches exactly or otherwise.
-fn allow(text: &[u8], exact: bool, rule: Rule, found: Findings) -> Findings
+pub fn allow(text: &[u8], exact: bool, rule: Rule, found: Findings) -> Findings
     ensures { λ r. ⌜ seenFindings (now (text .entry)) r ≡ allowing exact (ruleOf (now (text .entry)) rule) (seenFindings (now (text .entry)) found) ⌝ }
 {
     let perms = rule.perms;
@@ -146,7 +117,7 @@ fn allow(text: &[u8], exact: bool, rule: Rule, found: Findings) -> Findings
 }
 
 // The findings with a matching deny rule more.
-fn deny(text: &[u8], rule: Rule, found: Findings) -> Findings
+pub fn deny(text: &[u8], rule: Rule, found: Findings) -> Findings
     ensures { λ r. ⌜ seenFindings (now (text .entry)) r ≡ denying (ruleOf (now (text .entry)) rule) (seenFindings (now (text .entry)) found) ⌝ }
 {
     let perms = rule.perms;
@@ -160,74 +131,4 @@ fn deny(text: &[u8], rule: Rule, found: Findings) -> Findings
         exact,
         others,
     }
-}
-
-// The findings with one rule more, whose pattern has no fault, under the first n variables, whose sizes are known.
-fn weigh(
-    text: &[u8],
-    vars: &[usize; 1120],
-    n: usize,
-    sizes: Sizes,
-    path: &[u8],
-    owner: bool,
-    rule: Rule,
-    found: Findings,
-) -> Findings
-    ensures { λ r. ⌜ (Known (now (text .entry)) (now (vars .entry)) n sizes →
-        Fits (now (text .entry)) (now (path .entry)) →
-        patternFault (env (now (text .entry)) (now (vars .entry)) n) (spanOf (now (text .entry)) (rule .pattern)) ≡ 0 →
-        seenFindings (now (text .entry)) r
-        ≡ weighedBy owner (matchedOf (now (text .entry)) (env (now (text .entry)) (now (vars .entry)) n) (spanOf (now (text .entry)) (rule .pattern)) (now (path .entry))) (ruleOf (now (text .entry)) rule) (seenFindings (now (text .entry)) found)) ⌝ }
-{
-    if rule.owner & !owner {
-        return found;
-    }
-    let pattern = rule.pattern;
-    let m = match_good(text, vars, n, sizes, pattern.from.0, pattern.end.0, path);
-    if m.some {
-        if rule.deny {
-            return deny(text, rule, found);
-        }
-        return allow(text, m.exact, rule, found);
-    }
-    found
-}
-
-// The findings of count rules from a place on.
-pub fn findings_of(
-    text: &[u8],
-    vars: &[usize; 1120],
-    n: usize,
-    sizes: Sizes,
-    path: &[u8],
-    owner: bool,
-    count: usize,
-    at: Place,
-) -> Findings
-    ensures { λ r. ⌜ (Known (now (text .entry)) (now (vars .entry)) n sizes →
-        Fits (now (text .entry)) (now (path .entry)) →
-        (asked : ℕ) →
-        seenFindings (now (text .entry)) r
-        ≡ weighed (findings (env (now (text .entry)) (now (vars .entry)) n) (record { path = now (path .entry); asked = asked; owner = owner }) (rulesFrom count (env (now (text .entry)) (now (vars .entry)) n) (now (text .entry)) (at .0)))) ⌝ }
-{
-    let mut found = no_findings();
-    let mut place = at;
-    let mut i: usize = 0;
-    while i < count {
-        let r = rule_at(text, vars, n, sizes, 0, place);
-        match r {
-            Step::Rule { rule, next } => {
-                found = weigh(text, vars, n, sizes, path, owner, rule, found);
-                place = next;
-                i += 1;
-            }
-            Step::Close { next: _ } => {
-                return found;
-            }
-            Step::Refused(_) => {
-                return found;
-            }
-        }
-    }
-    found
 }

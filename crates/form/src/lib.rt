@@ -1,13 +1,14 @@
 // The form of patterns and values, and the names that they use.
+use ends::item_end;
+use ends::literal_end;
+use ends::part_end;
+use ends::seek;
+use parts::item_at;
+use parts::part_at;
 use pattern::ItemRead;
 use pattern::PartRead;
-use pattern::item_at;
-use pattern::item_end;
-use pattern::named;
-use pattern::part_at;
-use pattern::part_end;
-use pattern::seek;
 use scan::span;
+use variables::named;
 ghost use mathlib.Core.Path.{_≡_};
 ghost use mathlib.Core.List.{List};
 ghost use Prim.Native.Nat.{ℕ};
@@ -35,10 +36,10 @@ pub fn value_form(text: &[u8], a: usize, e: usize) -> bool
     ensures { λ r. ⌜ r ≡ valueForm (span (now (text .entry)) a e) ⌝ }
 {
     let s = span(text, a, e);
-    let mut i = 0;
+    let mut i = literal_end(s, 0);
     while i < s.len() {
         if good_part(part_at(text, a, e, i)) {
-            i = part_end(s, i);
+            i = literal_end(s, part_end(s, i));
         } else {
             return false;
         }
@@ -90,10 +91,10 @@ pub fn pattern_form(text: &[u8], a: usize, e: usize) -> bool
     ensures { λ r. ⌜ r ≡ patternForm (span (now (text .entry)) a e) ⌝ }
 {
     let s = span(text, a, e);
-    let mut i = 0;
+    let mut i = literal_end(s, 0);
     while i < s.len() {
         if good_item(text, item_at(text, a, e, i)) {
-            i = item_end(s, i);
+            i = literal_end(s, item_end(s, i));
         } else {
             return false;
         }
@@ -117,10 +118,10 @@ pub fn value_names(text: &[u8], vars: &[usize; 1120], n: usize, a: usize, e: usi
     ensures { λ r. ⌜ r ≡ valueNames (isSet (env (now (text .entry)) (now (vars .entry)) n)) (span (now (text .entry)) a e) ⌝ }
 {
     let s = span(text, a, e);
-    let mut i = 0;
+    let mut i = literal_end(s, 0);
     while i < s.len() {
         if known_part(text, vars, n, part_at(text, a, e, i)) {
-            i = part_end(s, i);
+            i = literal_end(s, part_end(s, i));
         } else {
             return false;
         }
@@ -163,10 +164,10 @@ pub fn pattern_names(text: &[u8], vars: &[usize; 1120], n: usize, a: usize, e: u
     ensures { λ r. ⌜ r ≡ patternNames (isSet (env (now (text .entry)) (now (vars .entry)) n)) (span (now (text .entry)) a e) ⌝ }
 {
     let s = span(text, a, e);
-    let mut i = 0;
+    let mut i = literal_end(s, 0);
     while i < s.len() {
         if known_item(text, vars, n, item_at(text, a, e, i)) {
-            i = item_end(s, i);
+            i = literal_end(s, item_end(s, i));
         } else {
             return false;
         }

@@ -7,17 +7,19 @@ use native.Mathlib.Numerals.{add-one}
 use native.Mathlib.Omega.{arith}
 use lib.ListN.{length, getD, drop, drop-of-length-le}
 use lib.Seq.{drop-cons}
-use lib.Dec.{ltb}
-use borrow.Author.Tests.{leb-true, eq-eqb, ne-eqb, ltb-false}
-use Rattle.scan.specs.Bytes.{every, some}
+use lib.Dec.{eqb, ltb}
+use borrow.Author.Tests.{leb-true, eq-eqb, ltb-false}
+use Rattle.scan.specs.Bytes.{every, some, if_then_else_}
 use Rattle.pattern.specs.Pieces.{Piece}
 use Rattle.pattern.specs.Items.{patternForm, patternNames}
-use Rattle.pattern.specs.Expansions.{Variable, isSet, expansions, count, longest, joined}
+use Rattle.pattern.specs.Expansions.{Variable, isSet, expansions, count, longest, isLiteral, joined}
 use Rattle.pattern.specs.Faults.{patternFault, tooLong, tooMany, rooted}
 use Rattle.sizes.proofs.Choices.{count-length}
-use Rattle.matcher.specs.Match.{isLiteral, matches, matchesSome, matchesExactly}
+use Rattle.matcher.specs.Match.{matches, matchesSome, matchesExactly}
 use Rattle.matcher.specs.Walk.{pathFits}
 use Rattle.matcher.proofs.Laws.{and-l, and-r}
+use Rattle.front.specs.Front.{beginning, front}
+use Rattle.front.proofs.Laws.{front-none, front-none-exactly}
 use Rattle.glob.specs.declared.Matched.{Matched}
 use Rattle.glob.specs.Glob.{textFits, noMatch, matchedOf, matchedBy, Within}
 
@@ -138,7 +140,7 @@ sized vs s e = go (ltb 256 (count vs s)) (ltb 1024 (longest (expansions vs s))) 
     go false false p q r = (omega (arith, ltb-false 256 (count vs s) p, count-length vs s), omega (arith, ltb-false 1024 (longest (expansions vs s)) q))
 
 module _ (text path : List ℕ) (vs : List Variable) (s : List ℕ) where
-  pub within-sizes : (textFits text && pathFits path) ≡ true → patternFault vs s ≡ 0 → Within text (expansions vs s) path
+  within-sizes : (textFits text && pathFits path) ≡ true → patternFault vs s ≡ 0 → Within text (expansions vs s) path
   within-sizes h e =
       record {
         short = leb-true (length text) 65535 (and-l (textFits text) (pathFits path) h);
@@ -147,15 +149,18 @@ module _ (text path : List ℕ) (vs : List Variable) (s : List ℕ) where
         room = sized vs s (faultless vs s e) .1;
       }
 
-  pub matched-good : (textFits text && pathFits path) ≡ true → patternFault vs s ≡ 0 →
-      record { some = matchesSome vs s path; exact = matchesExactly vs s path } ≡ matchedOf text vs s path
+  pub matched-good : {r : Matched} → (textFits text && pathFits path) ≡ true → patternFault vs s ≡ 0 →
+      (Within text (expansions vs s) path → r ≡ record { some = matchesSome vs s path; exact = matchesExactly vs s path }) → r ≡ matchedOf text vs s path
   unfolding matchedOf
-  matched-good h e = rw (h, eq-eqb (patternFault vs s) 0 e)
+  matched-good h e f = f (within-sizes h e) ∙ rw (h, eq-eqb (patternFault vs s) 0 e)
 
-  pub matched-fault : (textFits text && pathFits path) ≡ true → (patternFault vs s ≡ 0 → ⊥) → noMatch ≡ matchedOf text vs s path
+  -- a path that does not begin with the front, whether or not the pattern is good
+  pub matched-front : {fits : Bool} → fits ≡ beginning (front s) path → fits ≡ false → noMatch ≡ matchedOf text vs s path
   unfolding matchedOf
-  matched-fault h e = rw (h, ne-eqb (patternFault vs s) 0 e)
-
-  pub matched-long : (textFits text && pathFits path) ≡ false → noMatch ≡ matchedOf text vs s path
-  unfolding matchedOf
-  matched-long h = rw h
+  matched-front {fits} e q =
+      let h : beginning (front s) path ≡ false = sym e ∙ q in
+      rw (front-none vs s path h, front-none-exactly vs s path h) (go (textFits text && pathFits path && eqb (patternFault vs s) 0))
+    where
+      go : (t : Bool) → noMatch ≡ (if t then noMatch else noMatch)
+      go true = refl
+      go false = refl

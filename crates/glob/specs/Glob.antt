@@ -7,9 +7,9 @@ use lib.ListN.{length}
 use lib.Dec.{eqb, leb}
 use Rattle.scan.specs.Bytes.{every, if_then_else_}
 use Rattle.pattern.specs.Pieces.{Piece}
-use Rattle.pattern.specs.Expansions.{Variable, longest, joined}
+use Rattle.pattern.specs.Expansions.{Variable, longest, isLiteral, joined}
 use Rattle.pattern.specs.Faults.{patternFault}
-use Rattle.matcher.specs.Match.{isLiteral, matches, matchesSome, matchesExactly}
+use Rattle.matcher.specs.Match.{matches, matchesSome, matchesExactly}
 use Rattle.matcher.specs.Walk.{pathFits}
 use Rattle.glob.specs.declared.Matched.{Matched}
 

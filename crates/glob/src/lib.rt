@@ -1,11 +1,9 @@
 // A whole pattern against a path: every expansion is tried.
+use codes::is_literal;
+use codes::join_slashes;
 use expand::write_pattern;
-use faults::pattern_fault;
-use matcher::is_literal;
-use matcher::join_slashes;
-use sizes::Sizes;
-use sizes::pattern_size;
-use sizes::sizes_of;
+use front::fits_front;
+use measure::pattern_size;
 ghost use mathlib.Core.Path.{_≡_};
 ghost use mathlib.Core.List.{[]};
 ghost use mathlib.Core.Bool.{true, _&&_};
@@ -26,27 +24,27 @@ pub struct Matched {
     pub exact: bool,
 }
 
-// Expansion d of the pattern from a to before e against a path.
+// Expansion d of the pattern from a to before e against a path. Its codes are written over a lent buffer.
 fn match_expansion(
     text: &[u8],
     vars: &[usize; 1120],
     n: usize,
-    sizes: Sizes,
+    sizes: &[usize; 132],
     a: usize,
     e: usize,
     d: usize,
     path: &[u8],
+    codes: &mut [u32; 1024],
 ) -> Matched
-    ensures { λ r. ⌜ (Known (now (text .entry)) (now (vars .entry)) n sizes →
+    ensures { λ r. ⌜ (Known (now (text .entry)) (now (vars .entry)) n (now (sizes .entry)) →
         Within (now (text .entry)) (expansions (env (now (text .entry)) (now (vars .entry)) n) (span (now (text .entry)) a e)) (now (path .entry)) →
         d < length (expansions (env (now (text .entry)) (now (vars .entry)) n) (span (now (text .entry)) a e)) →
         r ≡ matchedBy (getD (expansions (env (now (text .entry)) (now (vars .entry)) n) (span (now (text .entry)) a e)) d []) (now (path .entry))) ⌝ }
 {
-    let mut codes = [0u32; 1024];
-    let count = write_pattern(text, vars, n, sizes, a, e, d, &mut codes);
-    let literal = is_literal(&codes, count);
-    let left = join_slashes(&mut codes, count);
-    let some = matcher::matched(text, &codes, left, path);
+    let count = write_pattern(text, vars, n, sizes, a, e, d, codes);
+    let literal = is_literal(codes, count);
+    let left = join_slashes(codes, count);
+    let some = matcher::matched(text, codes, left, path);
     Matched {
         some: some,
         exact: literal & some,
@@ -58,12 +56,12 @@ fn match_expansions(
     text: &[u8],
     vars: &[usize; 1120],
     n: usize,
-    sizes: Sizes,
+    sizes: &[usize; 132],
     a: usize,
     e: usize,
     path: &[u8],
 ) -> Matched
-    ensures { λ r. ⌜ (Known (now (text .entry)) (now (vars .entry)) n sizes →
+    ensures { λ r. ⌜ (Known (now (text .entry)) (now (vars .entry)) n (now (sizes .entry)) →
         Within (now (text .entry)) (expansions (env (now (text .entry)) (now (vars .entry)) n) (span (now (text .entry)) a e)) (now (path .entry)) →
         r ≡ record {
           some = matchesSome (env (now (text .entry)) (now (vars .entry)) n) (span (now (text .entry)) a e) (now (path .entry));
@@ -72,10 +70,11 @@ fn match_expansions(
 {
     let size = pattern_size(text, vars, n, sizes, a, e);
     let count = size.count;
+    let mut codes = [0u32; 1024];
     let mut some = false;
     let mut d = 0;
     while d < count {
-        let m = match_expansion(text, vars, n, sizes, a, e, d, path);
+        let m = match_expansion(text, vars, n, sizes, a, e, d, path, &mut codes);
         if m.exact {
             return Matched {
                 some: true,
@@ -92,60 +91,26 @@ fn match_expansions(
 }
 
 // The pattern from a to before e against a path, the sizes of the first n variables being known, where the text and the path fit
-// and the pattern has no fault.
+// and the pattern has no fault. A path that does not begin with the pattern's front is matched by none of its expansions.
 pub fn match_good(
     text: &[u8],
     vars: &[usize; 1120],
     n: usize,
-    sizes: Sizes,
+    sizes: &[usize; 132],
     a: usize,
     e: usize,
     path: &[u8],
 ) -> Matched
-    ensures { λ r. ⌜ (Known (now (text .entry)) (now (vars .entry)) n sizes →
+    ensures { λ r. ⌜ (Known (now (text .entry)) (now (vars .entry)) n (now (sizes .entry)) →
         (textFits (now (text .entry)) && pathFits (now (path .entry))) ≡ true →
         patternFault (env (now (text .entry)) (now (vars .entry)) n) (span (now (text .entry)) a e) ≡ 0 →
         r ≡ matchedOf (now (text .entry)) (env (now (text .entry)) (now (vars .entry)) n) (span (now (text .entry)) a e) (now (path .entry))) ⌝ }
 {
-    match_expansions(text, vars, n, sizes, a, e, path)
-}
-
-// The same for every text, path and pattern: what does not fit or has a fault matches nothing.
-pub fn match_pattern(
-    text: &[u8],
-    vars: &[usize; 1120],
-    n: usize,
-    sizes: Sizes,
-    a: usize,
-    e: usize,
-    path: &[u8],
-) -> Matched
-    ensures { λ r. ⌜ (Known (now (text .entry)) (now (vars .entry)) n sizes →
-        r ≡ matchedOf (now (text .entry)) (env (now (text .entry)) (now (vars .entry)) n) (span (now (text .entry)) a e) (now (path .entry))) ⌝ }
-{
-    if (text.len() <= 65535) & (path.len() <= 4095) {
-        let fault = pattern_fault(text, vars, n, sizes, a, e);
-        if fault == 0 {
-            return match_good(text, vars, n, sizes, a, e, path);
-        }
+    if fits_front(text, a, e, path) {
+        return match_expansions(text, vars, n, sizes, a, e, path);
     }
     Matched {
         some: false,
         exact: false,
     }
-}
-
-// The same with the sizes of the variables computed here.
-pub fn match_once(
-    text: &[u8],
-    vars: &[usize; 1120],
-    n: usize,
-    a: usize,
-    e: usize,
-    path: &[u8],
-) -> Matched
-    ensures { λ r. ⌜ r ≡ matchedOf (now (text .entry)) (env (now (text .entry)) (now (vars .entry)) n) (span (now (text .entry)) a e) (now (path .entry)) ⌝ }
-{
-    let sizes = sizes_of(text, vars, n);
-    match_pattern(text, vars, n, sizes, a, e, path)
 }

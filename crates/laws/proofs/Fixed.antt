@@ -5,10 +5,10 @@ use mathlib.Core.List.{List, [], _∷_}
 use mathlib.Core.Bool.{Bool, true, false, false≢true}
 use mathlib.Core.Logic.{⊎-elim}
 use Rattle.scan.specs.Bytes.{same, some, every, if_then_else_}
-use Rattle.perms.specs.Modes.{sameMode}
+use Rattle.modes.specs.Modes.{sameMode}
 use Rattle.scan.proofs.Laws.{same-eq, same-self}
 use Rattle.perms.proofs.Laws.{and-left, and-right}
-use Rattle.perms.proofs.Table.{same-mode, same-self as mode-self}
+use Rattle.modes.proofs.Table.{same-mode, same-self as mode-self}
 use Rattle.matcher.proofs.Laws.{or-cases, or-r}
 use Rattle.findings.specs.Findings.{Move, Findings, sameMove, SameMembers, Equal, Choice, Single, Several, choice}
 use Rattle.answer.specs.Answers.{preferred, moveOf, executeOf, grants, records, answerFrom}

@@ -11,9 +11,9 @@ use borrow.Author.Tests.{le-ltb, ne-eqb}
 use Rattle.scan.specs.Bytes.{same, some, every, if_then_else_}
 use Rattle.perms.specs.Sets.{has, setOf}
 use Rattle.perms.proofs.Laws.{and-left, and-right, has-set}
-use Rattle.perms.specs.declared.Mode.{Mode}
-use Rattle.perms.specs.declared.Execute.{Execute}
-use Rattle.perms.specs.declared.Execute.the-variants.{NotAsked, Denied, Conflict, ByMode}
+use Rattle.modes.specs.declared.Mode.{Mode}
+use Rattle.modes.specs.declared.Execute.{Execute}
+use Rattle.modes.specs.declared.Execute.the-variants.{NotAsked, Denied, Conflict, ByMode}
 use Rattle.pattern.specs.Expansions.{Variable}
 use Rattle.rule.specs.Rules.{Rule}
 use Rattle.preamble.specs.Variables.{finalSets}

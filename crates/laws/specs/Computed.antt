@@ -11,18 +11,21 @@ use Rattle.pattern.specs.Expansions.{isSet, ofParts, oneOf, ofName, ofItems, ac
 use Rattle.pattern.specs.Faults.{tooMany, rooted, valueFault, patternFault}
 use Rattle.pattern.specs.Items.{before, afterComma, item, reach, items, valueForm, patternForm, valueNames, patternNames}
 use Rattle.pattern.specs.Pieces.{upTo, extra, part, parts}
-use Rattle.perms.specs.Modes.{modeIn, sameMode}
+use Rattle.modes.specs.Modes.{modeIn, sameMode}
 use Rattle.perms.specs.Sets.{has}
-use Rattle.perms.specs.Words.{letters, carried, withMode, wordOf}
+use Rattle.perms_word.specs.Words.{letters, carried, withMode, wordOf}
 use Rattle.preamble.specs.Preamble.{valuesAt, named, operatorFrom, assignmentFrom, preambleAt}
 use Rattle.preamble.specs.Variables.{variableForm, valuesOf, setBefore, extended, assigned, finalSets}
-use Rattle.profile.specs.Profiles.{nameAt, openAt, headAt, profilesAt, fileOf}
-use Rattle.rule.specs.Names.{nameForm}
-use Rattle.rule.specs.Rules.{optional, qualifiersAt, patternAt, permsAt, targetAt, commaAt, ruleFrom, rulesAt}
+use Rattle.heads.specs.Heads.{nameAt, openAt, headAt}
+use Rattle.profile.specs.Profiles.{profilesAt, fileOf}
+use Rattle.names.specs.Names.{nameForm}
+use Rattle.rule.specs.Rules.{optional, qualifiersAt, patternAt, ruleFrom, rulesAt}
+use Rattle.rule_tail.specs.Tails.{permsAt, targetAt, commaAt}
 use Rattle.scan.specs.Bytes.{bytes, every, some, same, run}
 use Rattle.text.specs.Reading.{feeds, lineOf}
-use Rattle.text.specs.Tokens.{includes, skip, tokenFrom, tokenAt}
-use Rattle.text.specs.Words.{notTaken}
+use Rattle.blanks.specs.Blanks.{includes, skip}
+use Rattle.tokens.specs.Tokens.{tokenFrom, tokenAt}
+use Rattle.keywords.specs.Keywords.{notTaken}
 use Rattle.answer.specs.declared.Answer.{Answer}
 
 unfoldable pub computed : (text name path : List ℕ) (asked : ℕ) (owner : Bool) → Answer

@@ -8,13 +8,13 @@ use mathlib.Core.Logic.{⊎-elim}
 use native.Mathlib.Omega.{arith}
 use Rattle.scan.specs.Bytes.{bytes}
 use Rattle.perms.specs.Sets.{perms}
-use Rattle.perms.specs.declared.Kind.the-variants as kind
-use Rattle.perms.specs.declared.Fallback.the-variants as fallback
-use Rattle.perms.specs.declared.Mode.{Mode}
-use Rattle.perms.specs.declared.Execute.{Execute}
-use Rattle.perms.specs.declared.Execute.the-variants.{Conflict, ByMode}
-use Rattle.perms.specs.declared.Transition.{Transition}
-use Rattle.perms.specs.declared.Transition.the-variants as transition
+use Rattle.modes.specs.declared.Kind.the-variants as kind
+use Rattle.modes.specs.declared.Fallback.the-variants as fallback
+use Rattle.modes.specs.declared.Mode.{Mode}
+use Rattle.modes.specs.declared.Execute.{Execute}
+use Rattle.modes.specs.declared.Execute.the-variants.{Conflict, ByMode}
+use Rattle.modes.specs.declared.Transition.{Transition}
+use Rattle.modes.specs.declared.Transition.the-variants as transition
 use Rattle.rule.specs.Rules.{Rule}
 use Rattle.profile.specs.Profiles.{Profile, File}
 use Rattle.findings.specs.Findings.{allows, denies}

@@ -6,10 +6,10 @@ use mathlib.Core.List.{List, [], _∷_, map}
 use mathlib.Core.Bool.{Bool, true, false}
 use Rattle.scan.specs.Bytes.{bytes}
 use Rattle.perms.specs.Sets.{perms}
-use Rattle.perms.specs.declared.Kind.the-variants as kind
-use Rattle.perms.specs.declared.Fallback.the-variants as fallback
-use Rattle.perms.specs.declared.Execute.{Execute}
-use Rattle.perms.specs.declared.Execute.the-variants.{NotAsked, ByMode}
+use Rattle.modes.specs.declared.Kind.the-variants as kind
+use Rattle.modes.specs.declared.Fallback.the-variants as fallback
+use Rattle.modes.specs.declared.Execute.{Execute}
+use Rattle.modes.specs.declared.Execute.the-variants.{NotAsked, ByMode}
 use Rattle.answer.specs.Answers.{targetOf}
 use Rattle.decide.specs.Decide.{answerOf}
 use Rattle.answer.specs.declared.Answer.{Answer}

@@ -7,8 +7,8 @@ use mathlib.Core.Logic.{_⊎_}
 use lib.ListN.{length}
 use Rattle.scan.specs.Bytes.{same}
 use Rattle.perms.specs.Sets.{has}
-use Rattle.perms.specs.declared.Mode.{Mode}
-use Rattle.perms.specs.declared.Execute.the-variants.{Conflict, ByMode}
+use Rattle.modes.specs.declared.Mode.{Mode}
+use Rattle.modes.specs.declared.Execute.the-variants.{Conflict, ByMode}
 use Rattle.text.specs.Reading.{Read}
 use Rattle.rule.specs.Rules.{Rule}
 use Rattle.profile.specs.Profiles.{Profile, File, fileOf}

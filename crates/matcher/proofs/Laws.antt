@@ -263,9 +263,12 @@ first-mark true false = refl
 first-mark false true = refl
 first-mark false false = refl
 
-pub after-zero : (p : Piece) (s : List ℕ) (m : List Bool) → after p s m 0 ≡ markOf (repeatsOf p) false (getD m 0 false) false false
+after-zero : (p : Piece) (s : List ℕ) (m : List Bool) → after p s m 0 ≡ markOf (repeatsOf p) false (getD m 0 false) false false
 unfolding after
 after-zero p s m = ap (λ (a : Bool). getD m 0 false && a) (accepts-nil p) ∙ first-mark (getD m 0 false) (repeatsOf p)
+
+pub first-right : (p : Piece) (s : List ℕ) (m : List Bool) (many v : Bool) → many ≡ repeatsOf p → v ≡ markOf many false (getD m 0 false) false false → v ≡ after p s m 0
+first-right p s m many v r e = e ∙ rw r (sym (after-zero p s m))
 
 module _ (p : Piece) (s : List ℕ) (m : List Bool) (i : ℕ) (l : i < length s) where
   -- what stands between j and i + 1
@@ -302,11 +305,11 @@ module _ (p : Piece) (s : List ℕ) (m : List Bool) (i : ℕ) (l : i < length s)
       go false e = suc-one e
 
   -- the mark that a turn of the loop of `step` finds
-  pub mark-right : (next : List Bool) (v : Bool)
-      → getD next i false ≡ after p s m i
-      → v ≡ markOf (repeatsOf p) (getD m i false) (getD m (i + 1) false) (getD next i false) (takesOf p (getD s i 0))
+  pub mark-right : (next : List Bool) (many ok v : Bool)
+      → many ≡ repeatsOf p → ok ≡ takesOf p (getD s i 0) → getD next i false ≡ after p s m i
+      → v ≡ markOf many (getD m i false) (getD m (i + 1) false) (getD next i false) ok
       → v ≡ after p s m (i + 1)
-  mark-right next v h e = e ∙ rw (h, add-one) (sym after-suc)
+  mark-right next many ok v r t h e = e ∙ rw (r, t, h, add-one) (sym after-suc)
 
 -- one mark more is right
 pub more-marks : (f : ℕ → Bool) (next : List Bool) (i : ℕ) (v : Bool)
@@ -342,13 +345,15 @@ module _ (f : ℕ → Piece) (cs : List ℕ) (i : ℕ) (b : i < length cs) where
   more-pieces s m h j l = after-snoc (map f (take i cs)) (f (getD cs i 0)) s m h j l ∙ rw one-more
 
   -- no place is alive after one piece more: the pieces do not match
-  pub dead : (s : List ℕ) (m : List Bool)
+  pub dead : (s : List ℕ) (m : List Bool) (alive : Bool)
       → ((j : ℕ) → j ≤ length s → getD m j false ≡ matches (map f (take i cs)) (take j s))
-      → someUpTo (after (f (getD cs i 0)) s m) (length s) ≡ false
-      → matches (map f cs) s ≡ false
-  dead s m h e =
+      → alive ≡ someUpTo (after (f (getD cs i 0)) s m) (length s) → alive ≡ false
+      → false ≡ matches (map f cs) s
+  dead s m alive h a d =
+      let e : someUpTo (after (f (getD cs i 0)) s m) (length s) ≡ false = sym a ∙ d in
       let split : map f cs ≡ map f (take (i + 1) cs) ++ map f (drop (i + 1) cs) =
       ap (map f) (sym (take-append-drop (i + 1) cs)) ∙ map-append f (take (i + 1) cs) (drop (i + 1) cs) in
-      rw split
+      sym
+      (rw split
       (matches-dead (map f (take (i + 1) cs)) (map f (drop (i + 1) cs)) s
-      (λ j l. sym (more-pieces s m h j l) ∙ none-of (after (f (getD cs i 0)) s m) (length s) e j l))
+      (λ j l. sym (more-pieces s m h j l) ∙ none-of (after (f (getD cs i 0)) s m) (length s) e j l)))

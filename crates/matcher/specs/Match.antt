@@ -8,7 +8,7 @@ use lib.Dec.{eqb}
 use Rattle.scan.specs.Bytes.{every, isEmpty, some}
 use Rattle.class.specs.Class.{inClass}
 use Rattle.pattern.specs.Pieces.{Piece, Byte, One, Star, StarStar, Class}
-use Rattle.pattern.specs.Expansions.{Variable, expansions, joined}
+use Rattle.pattern.specs.Expansions.{Variable, expansions, isLiteral, joined}
 
 -- one byte, of the kind p
 abbrev pub single : (ℕ → Bool) → List ℕ → Bool
@@ -36,13 +36,6 @@ someUpTo p (suc n) = someUpTo p n || p (suc n)
 unfoldable pub matches : List Piece → List ℕ → Bool
 matches [] s = isEmpty s
 matches (p ∷ ps) s = someUpTo (λ k. accepts p (take k s) && matches ps (drop k s)) (length s)
-
-abbrev pub isLiteral : Piece → Bool
-isLiteral (Byte c) = true
-isLiteral One = false
-isLiteral Star = false
-isLiteral StarStar = false
-isLiteral (Class k) = false
 
 -- "A rule's pattern matches a path when some expansion matches all of it."
 unfoldable pub matchesSome : List Variable → List ℕ → List ℕ → Bool

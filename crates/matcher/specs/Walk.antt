@@ -1,13 +1,11 @@
 -- What one step of the walk over a path says of a piece.
 use Prim.Native.Nat.{ℕ}
-use mathlib.Core.Path.{_≡_}
 use mathlib.Core.List.{List}
 use mathlib.Core.Bool.{Bool, true, false, _&&_, _||_}
 use lib.ListN.{length, take, drop, getD}
 use lib.Dec.{eqb, leb, ltb}
 use Rattle.class.specs.Class.{inClass}
 use Rattle.pattern.specs.Pieces.{Piece, Byte, One, Star, StarStar, Class}
-use Rattle.pattern.specs.Codes.{joinedCodes}
 use Rattle.matcher.specs.Match.{accepts, noSlash, someUpTo}
 
 -- a piece takes any number of bytes, or one
@@ -42,10 +40,3 @@ after p s m i = someUpTo (λ j. getD m j false && accepts p (drop j (take i s)))
 -- "Path 4,095 passes, 4,096 is 2"
 abbrev pub pathFits : List ℕ → Bool
 pathFits s = leb (length s) 4095
-
--- the first codes of a buffer have become r, with neighbouring slashes joined; those behind them stay
-pub record Joins (count : ℕ) (before after : List ℕ) (r : ℕ) : Type 0 where
-  pub size : r ≡ length (joinedCodes (take count before))
-  pub kept : take r after ≡ joinedCodes (take count before)
-  pub behind : drop count after ≡ drop count before
-  pub room : length after ≡ length before

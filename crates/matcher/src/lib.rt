@@ -2,12 +2,12 @@
 ghost use mathlib.Core.Path.{_≡_};
 ghost use mathlib.Core.Bool.{false, _&&_};
 ghost use mathlib.Core.List.{List, map};
-ghost use Prim.Native.Nat.{ℕ, _+_, _-_, _≤_, min};
+ghost use Prim.Native.Nat.{ℕ, _+_, _-_, _≤_};
 ghost use lib.ListN.{length, getD, take, drop};
-ghost use Rattle.scan.specs.Bytes.{every, run, if_then_else_};
+ghost use Rattle.scan.specs.Bytes.{run};
 ghost use Rattle.pattern.specs.Codes.{bracketed, decode, notClose};
-ghost use Rattle.matcher.specs.Match.{isLiteral, matches, someUpTo};
-ghost use Rattle.matcher.specs.Walk.{Joins, after, markOf, pathFits, repeatsOf, takesAt, takesOf};
+ghost use Rattle.matcher.specs.Match.{matches, someUpTo};
+ghost use Rattle.matcher.specs.Walk.{after, markOf, pathFits, repeatsOf, takesAt, takesOf};
 
 // The codes of pieces: a literal is its byte; then ?, * and **; a class is the place in the text of its first byte above CLASS.
 const ONE: u32 = 256;
@@ -18,19 +18,10 @@ const STAR_STAR: u32 = 258;
 
 const CLASS: u32 = 65536;
 
-const SLASH: u32 = 47;
-
 // Which places of the path are alive, and whether any is.
 struct Marks {
     places: [bool; 4096],
     alive: bool,
-}
-
-// The lower of two numbers.
-fn lower(a: usize, b: usize) -> usize
-    ensures { λ r. ⌜ r ≡ min a b ⌝ }
-{
-    if a <= b { a } else { b }
 }
 
 // The place in the text that the code of a class tells.
@@ -192,46 +183,4 @@ pub fn matched(text: &[u8], codes: &[u32], count: usize, path: &[u8]) -> bool
         return walk(text, codes, path);
     }
     false
-}
-
-// How many places a code takes that is left out, or kept.
-fn kept(out: bool) -> usize
-    ensures { λ r. ⌜ r ≡ (if out then 0 else 1) ⌝ }
-{
-    if out { 0 } else { 1 }
-}
-
-// Of the first pieces, as many as counted, neighbouring literal slashes become one; how many pieces are left.
-pub fn join_slashes(codes: &mut [u32], count: usize) -> usize
-    ensures { λ r. ⌜ Joins count (now (codes .entry)) (now (codes .exit)) r ⌝ }
-{
-    let n = lower(count, codes.len());
-    let mut slash = false;
-    let mut at = 0;
-    let mut i = 0;
-    while i < n {
-        let c = codes[i];
-        let here = c == SLASH;
-        codes[at] = c;
-        at += kept(slash & here);
-        slash = here;
-        i += 1;
-    }
-    at
-}
-
-// Whether the first pieces, as many as counted, are literals only.
-pub fn is_literal(codes: &[u32], count: usize) -> bool
-    ensures { λ r. ⌜ ((text : List ℕ) → r ≡ every isLiteral (map (decode text) (take count (now (codes .entry))))) ⌝ }
-{
-    let end = lower(count, codes.len());
-    let mut seen = 0;
-    while seen < end {
-        if codes[seen] < ONE {
-            seen += 1;
-        } else {
-            return false;
-        }
-    }
-    true
 }

@@ -93,6 +93,13 @@ isSlash Star = false
 isSlash StarStar = false
 isSlash (Class s) = false
 
+abbrev pub isLiteral : Piece → Bool
+isLiteral (Byte c) = true
+isLiteral One = false
+isLiteral Star = false
+isLiteral StarStar = false
+isLiteral (Class k) = false
+
 abbrev pub beginsSlash : List Piece → Bool
 beginsSlash [] = false
 beginsSlash (p ∷ ps) = isSlash p

@@ -6,3 +6,4 @@ pub mod Codes
 pub mod Places
 pub mod Reads
 pub mod Table
+pub mod Literals

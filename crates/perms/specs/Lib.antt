@@ -1,3 +1,1 @@
 pub mod Sets
-pub mod Modes
-pub mod Words

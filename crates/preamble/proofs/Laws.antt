@@ -12,16 +12,19 @@ use native.Mathlib.Omega.{arith}
 use Rattle.scan.specs.Bytes.{begins, bytes, isEmpty, letter, run, same, some, span, if_then_else_}
 use Rattle.scan.proofs.Laws.{same-eq, same-self, run-le, every-from}
 use Rattle.text.specs.Reading.{Reading, Read, Refused, _>>=_, refuseIf, judged}
-use Rattle.text.specs.Tokens.{Token, Found, hash, nul, noStop, plain, standing, standsAt, tokenAt, wanted}
-use Rattle.text.proofs.Laws.{begins-end}
-use Rattle.text.specs.Places.{refusedBy, seen, stopOf}
-use Rattle.text.specs.declared.Read as text
-use Rattle.text.specs.declared.Read.the-variants as read
+use Rattle.tokens.specs.Tokens.{Token, Found, noStop, plain, tokenAt, wanted}
+use Rattle.blanks.specs.Blanks.{hash, nul, standing, standsAt}
+use Rattle.scan.proofs.Laws.{begins-end}
+use Rattle.tokens.proofs.Laws.{seen-found}
+use Rattle.text.specs.Places.{place, refusedBy}
+use Rattle.tokens.specs.Places.{seen, stopOf, tokenOf}
+use Rattle.tokens.specs.declared.Read as tokens
+use Rattle.tokens.specs.declared.Token as code
+use Rattle.tokens.specs.declared.Read.the-variants as read
 use Rattle.pattern.specs.Expansions.{Variable, isSet}
 use Rattle.pattern.specs.Faults.{valueFault}
 use Rattle.pattern.specs.Table.{bytesAt, variables, env, numberOf, valuesOf as heldValues}
 use Rattle.pattern.proofs.Laws.{number-le, number-set}
-use Rattle.variables.specs.declared.Variables as code
 use Rattle.faults.proofs.Laws.{empty-yes, empty-no}
 use Rattle.preamble.specs.declared.Opened.{Opened}
 use Rattle.preamble.specs.declared.ValuesRead.{ValuesRead}
@@ -30,11 +33,11 @@ use Rattle.preamble.specs.declared.OperatorRead.{OperatorRead}
 use Rattle.preamble.specs.declared.OperatorRead.the-variants as operator
 use Rattle.text.specs.declared.Stop.{Stop}
 use Rattle.text.specs.declared.Place.{Place}
-use Rattle.variables.specs.Added.{Named, Added, room}
-use Rattle.variables.proofs.Laws.{added-none, added-both, added-before, added-room, length-values}
+use Rattle.variables.specs.Added.{Added, nameSet, room, valueSet}
+use Rattle.variables.proofs.Laws.{added-none, added-both, added-before, added-room, length-values, name-set, value-set}
 use Rattle.preamble.specs.Variables.{Assignment, variableForm, valuesOf, setBefore, extended, assigned, finalSets}
 use Rattle.preamble.specs.Preamble.{Values, Operator, Assigned, Preamble, assignmentFrom, inLineAt, lineEnds, nameFault, named, operatorFrom, preambleAt, valuesAt}
-use Rattle.preamble.specs.Places.{after, afterName, afterFault, afterOperator, afterValues, assignedOf, givenTo, held, nameByte, nextFault, Opening, preambleOf, seenOperator, seenPreamble, Upto, Valued, State}
+use Rattle.preamble.specs.Places.{after, afterName, afterFault, afterOperator, afterValues, assignedOf, givenTo, nameByte, nextFault, Opening, preambleOf, seenOperator, seenPreamble, Upto, Valued, State}
 
 -- ---- names and lines
 
@@ -60,7 +63,7 @@ module _ (s : List ℕ) (i : ℕ) where
   two-fit w h e = omega (arith, ap length (same-eq (take 2 (drop i s)) w e), length-take 2 (drop i s), length-drop i s)
 
 -- the refusal of any token but an operator
-pub no-operator : (s : List ℕ) (r : text.Read) → (wanted s (seen s r) >>= λ t. Refused 4 (t .start)) ≡ refusedBy {A = Operator} (stopOf s r)
+pub no-operator : (s : List ℕ) (r : tokens.Read) → (wanted s (seen s r) >>= λ t. Refused 4 (t .start)) ≡ refusedBy {A = Operator} (stopOf s r)
 unfolding seen stopOf
 no-operator s (read.Found t) = refl
 no-operator s (read.Stopped n p) = refl
@@ -166,40 +169,38 @@ unset-values (v ∷ vs) n e = go (same (v .name) n) (λ q. unset-values vs n q) 
     go false f q = f q
 
 -- the variable of a name that is set
-pub opening-adds : (text : List ℕ) (vars : code.Variables) (name : List ℕ) (k : ℕ) → nameFault (held text vars) true name ≡ 0 →
-    k ≡ numberOf text (vars .table) (min 32 (vars .count)) name → Opening text (held text vars) true name (record { vars = vars; w = k - 1 })
+pub opening-adds : (text t : List ℕ) (n : ℕ) (name : List ℕ) (k : ℕ) → nameFault (env text t n) true name ≡ 0 →
+    k ≡ numberOf text t (min 32 n) name → Opening text t (env text t n) true name (record { count = n; w = k - 1 })
 unfolding assigned
-opening-adds text vars name k e q =
-    let t = vars .table in
-    let n = min 32 (vars .count) in
-    let h : 0 < numberOf text t n name = set-number text t (vars .count) name e in
-    let s : numberOf text t n name ≡ suc (k - 1) = omega arith in
+opening-adds text t n name k e q =
+    let h : 0 < numberOf text t (min 32 n) name = set-number text t n name e in
+    let s : numberOf text t (min 32 n) name ≡ suc (k - 1) = omega arith in
     record {
-      low = omega (arith, number-le text t name n);
+      low = omega (arith, number-le text t name (min 32 n));
       number = s;
-      before = number-before text t name n (k - 1) s;
-      values = number-values text t name n (k - 1) s;
+      before = number-before text t name (min 32 n) (k - 1) s;
+      values = number-values text t name (min 32 n) (k - 1) s;
       result = λ ws. refl;
     }
 
 -- a new variable
-pub opening-sets : (text : List ℕ) (vars new : code.Variables) (start end : ℕ) → nameFault (held text vars) false (span text start end) ≡ 0 →
-    (vars .count < 32 → (new .count ≡ vars .count + 1) × ((s : List ℕ) → Named s (vars .table) (new .table) (vars .count) start end)) →
-    Opening text (held text vars) false (span text start end) (record { vars = new; w = vars .count })
+pub opening-sets : (text t new : List ℕ) (n start end : ℕ) → nameFault (env text t n) false (span text start end) ≡ 0 →
+    (length t ≡ 1120) × (new ≡ nameSet t n start end) → Opening text new (env text t n) false (span text start end) (record { count = n + 1; w = n })
 unfolding assigned extended numberOf
-opening-sets text vars new start end e f =
-    let u = unset-number text (vars .table) (vars .count) (span text start end) e in
-    let h : vars .count < 32 = u .1 in
-    let c : min 32 (new .count) ≡ suc (vars .count) = omega (arith, f h .0) in
-    let d : min 32 (vars .count) ≡ vars .count = omega arith in
-    let g = f h .1 text in
-    record {
+opening-sets text t new n start end e f =
+    let u = unset-number text t n (span text start end) e in
+    let h : n < 32 = u .1 in
+    let c : min 32 (n + 1) ≡ suc n = omega arith in
+    let d : min 32 n ≡ n = omega arith in
+    let g = name-set t n start end (f .0) h text in
+    rw (f .1)
+    (record {
       low = h;
       number = rw (c, numberOf, g .called, same-self (span text start end));
       before = rw d (sym (g .behind));
-      values = unset-values (held text vars) (span text start end) (u .0) ∙ sym (g .none);
+      values = unset-values (env text t n) (span text start end) (u .0) ∙ sym (g .none);
       result = λ ws. rw (c, d, g .front, extended, same-self (span text start end));
-    }
+    })
 
 -- ---- values
 
@@ -277,109 +278,130 @@ module _ {left : ℕ} (vs : List Variable) (s : List ℕ) where
 pub upto-start : (text old : List ℕ) (w at : ℕ) → Upto text old w at old at false
 upto-start text old w at = record { values = []; added = added-none text w old; rest = sym (after-none (givenTo text old w at)); some = refl }
 
-module _ (text old : List ℕ) (w at : ℕ) (new : List ℕ) (next : ℕ) (given : Bool) (u : Upto text old w at new next given) where
-  pub upto-end : lineEnds (drop (inLineAt text next) text) ≡ true → givenTo text old w at ≡ Read (record { values = u .values; next = inLineAt text next })
+-- what stands at p, next in the line
+module _ {text old : List ℕ} {w at : ℕ} {new : List ℕ} {next : ℕ} {given : Bool} (u : Upto text old w at new next given) {p : ℕ} (i : p ≡ inLineAt text next) where
+  pub upto-end : lineEnds (drop p text) ≡ true → (stop : Stop) →
+      Valued text old new w (givenTo text old w at) (record { refused = false; stop = stop; given = given; next = place p })
   unfolding after
-  upto-end e = u .rest ∙ ap (after (u .values)) (values-end (variables text old w) text next (room new w) e) ∙ rw append-nil
+  upto-end e stop =
+      let q : givenTo text old w at ≡ Read (record { values = u .values; next = p }) =
+      u .rest ∙ ap (after (u .values)) (values-end (variables text old w) text next (room new w) (rw (← i) e)) ∙ rw (append-nil, ← i) in
+      record { refusal = λ z. absurd (false≢true z); stored = λ _. record { values = u .values; read = q; added = u .added; some = u .some } }
 
-  module _ (e : lineEnds (drop (inLineAt text next) text) ≡ false) where
-    pub upto-stop : (n p : ℕ) → wanted text (tokenAt noStop text (inLineAt text next)) ≡ Refused n p → givenTo text old w at ≡ Refused n p
+  refused : (stop : Stop) → givenTo text old w at ≡ refusedBy stop → (given : Bool) (next : Place) →
+      Valued text old new w (givenTo text old w at) (record { refused = true; stop = stop; given = given; next = next })
+  refused stop e given next = record { refusal = λ _. e; stored = λ z. absurd (false≢true (sym z)) }
+
+  module _ (r : tokens.Read) (n : seen text r ≡ tokenAt noStop text p) (e : lineEnds (drop p text) ≡ false) where
+    pub upto-stop : wanted text (seen text r) ≡ refusedBy (stopOf text r) → (stop : Stop) → stop ≡ stopOf text r → (given : Bool) (next : Place) →
+        Valued text old new w (givenTo text old w at) (record { refused = true; stop = stop; given = given; next = next })
     unfolding after
-    upto-stop n p q = u .rest ∙ ap (after (u .values)) (values-stop (variables text old w) text next e (room new w) n p q)
+    upto-stop z stop q =
+        let k : wanted text (tokenAt noStop text (inLineAt text next)) ≡ refusedBy stop = rw (← i, ← n, q) z in
+        refused stop (u .rest ∙ ap (after (u .values)) (values-stop (variables text old w) text next (rw (← i) e) (room new w) (stop .number) (stop .place .0) k))
 
-    module _ (h : w < 32) (t : Token) (q : tokenAt noStop text (inLineAt text next) ≡ Found t) where
+    module _ (t : code.Token) (g : r ≡ read.Found t) (h : w < 32) where
+      abbrev content : List ℕ
+      content = span text (t .from .0) (t .end .0)
+
+      token : tokenAt noStop text (inLineAt text next) ≡ Found (tokenOf text t)
+      token = rw (← i, ← n, g) (seen-found text t)
+
       same-before : env text new w ≡ variables text old w
       same-before = let d : min 32 w ≡ w = omega arith in rw d (added-before text w (u .added) (omega arith))
 
-      pub upto-fault : (f : ℕ) → f ≡ nextFault (room new w) (env text new w) (t .content) → (f ≡ 0 → ⊥) → givenTo text old w at ≡ Refused f (t .start)
-      unfolding after
-      upto-fault f k z =
-          let g : f ≡ nextFault (room new w) (variables text old w) (t .content) = k ∙ ap (λ (vs : List Variable). nextFault (room new w) vs (t .content)) same-before in
-          u .rest
-          ∙ ap (after (u .values)) (values-fault (variables text old w) text next e t q (room new w) (λ j. z (g ∙ j)))
-          ∙ ap (λ (n : ℕ). Refused n (t .start)) (sym g)
+      module _ (f : ℕ) (k : f ≡ nextFault (room new w) (env text new w) content) where
+        fault-here : f ≡ nextFault (room new w) (variables text old w) content
+        fault-here = k ∙ ap (λ (vs : List Variable). nextFault (room new w) vs content) same-before
 
-      pub upto-more : nextFault (room new w) (env text new w) (t .content) ≡ 0 → (new′ : List ℕ) → Added text new new′ w (t .content ∷ []) →
-          Upto text old w at new′ (t .next) true
-      upto-more k new′ a =
-          let g : nextFault (room new w) (variables text old w) (t .content) ≡ 0 = ap (λ (vs : List Variable). nextFault (room new w) vs (t .content)) (sym same-before) ∙ k in
-          let r : room new w - 1 ≡ room new′ w = sym (added-room text w a) in
-          record {
-            values = u .values ++ (t .content ∷ []);
-            added = added-both text w (u .added) a;
-            rest =
-                u .rest
-                ∙ ap (after (u .values)) (values-more (variables text old w) text next e t q (room new w) g)
-                ∙ after-after (u .values) (t .content ∷ []) (valuesAt (room new w - 1) (variables text old w) text (t .next))
-                ∙ ap (λ (n : ℕ). after (u .values ++ (t .content ∷ [])) (valuesAt n (variables text old w) text (t .next))) r;
-            some = sym (ap not (ne-eqb (length (u .values ++ (t .content ∷ []))) 0 λ z. omega (arith, length-append (u .values) (t .content ∷ []))));
-          }
+        pub upto-fault : (f ≡ 0 → ⊥) → (given : Bool) (next : Place) →
+            Valued text old new w (givenTo text old w at) (record { refused = true; stop = record { number = f; place = t .start }; given = given; next = next })
+        unfolding after
+        upto-fault z =
+            refused (record { number = f; place = t .start })
+            (u .rest
+            ∙ ap (after (u .values)) (values-fault (variables text old w) text next (rw (← i) e) (tokenOf text t) token (room new w) (λ j. z (fault-here ∙ j)))
+            ∙ ap (λ (m : ℕ). Refused m (t .start .0)) (sym fault-here))
 
-pub valued-refused : (text : List ℕ) (vars : code.Variables) (w : ℕ) (x : Reading Values) (r : ValuesRead) (stop : Stop) (h : code.Variables) →
-    x ≡ refusedBy stop → (r .refused ≡ true) × ((r .stop ≡ stop) × (r .vars ≡ h)) → h .count ≡ vars .count → Valued text vars w x r
-valued-refused text vars w x r stop h e f c =
-    record {
-      refusal = λ _. e ∙ ap (λ (z : Stop). refusedBy {A = Values} z) (sym (f .1 .0));
-      stored = λ q. absurd (false≢true (sym q ∙ f .0));
-      count = ap (λ (z : code.Variables). z .count) (f .1 .1) ∙ c;
-    }
+        module _ (z : f ≡ 0) {new′ : List ℕ} (s : (length new ≡ 1120) × (new′ ≡ valueSet new w (t .from .0) (t .end .0))) where
+          free : 0 < room new w
+          free = fault-room (room new w) (env text new w) content (sym k ∙ z)
+
+          more : Added text new new′ w (content ∷ [])
+          more = rw (s .1) (value-set new w (t .from .0) (t .end .0) (s .0) h (omega (arith, free)) text)
+
+          pub upto-less : room new′ w < room new w
+          upto-less = omega (arith, free, added-room text w more)
+
+          pub upto-more : Upto text old w at new′ (t .next .0) true
+          upto-more =
+              let j : room new w - 1 ≡ room new′ w = sym (added-room text w more) in
+              record {
+                values = u .values ++ (content ∷ []);
+                added = added-both text w (u .added) more;
+                rest =
+                    u .rest
+                    ∙ ap (after (u .values)) (values-more (variables text old w) text next (rw (← i) e) (tokenOf text t) token (room new w) (sym fault-here ∙ z))
+                    ∙ after-after (u .values) (content ∷ []) (valuesAt (room new w - 1) (variables text old w) text (t .next .0))
+                    ∙ ap (λ (m : ℕ). after (u .values ++ (content ∷ [])) (valuesAt m (variables text old w) text (t .next .0))) j;
+                some = sym (ap not (ne-eqb (length (u .values ++ (content ∷ []))) 0 λ q. omega (arith, length-append (u .values) (content ∷ []))));
+              }
 
 -- ---- an assignment
 
 module _ (vs : List Variable) (s n : List ℕ) (start sign : ℕ) (op : Operator) where
-  pub operator-fault : (f : ℕ) → f ≡ nameFault vs (op .adds) n → (f ≡ 0 → ⊥) → afterOperator vs s n start sign op ≡ Refused f start
-  unfolding afterOperator
-  operator-fault f e z = ap (λ (k : ℕ). judged k start >>= λ _. afterFault vs s n sign op) (sym e) ∙ go f z
+  abbrev judgedHere : ℕ → Reading Assigned
+  judgedHere k = judged k start >>= λ _. afterFault vs s n sign op
+
+  pub operator-fault : (f : ℕ) → f ≡ nameFault vs (op .adds) n → (f ≡ 0 → ⊥) → assignedOf vs (afterOperator vs s n start sign op) ≡ Refused f start
+  unfolding afterOperator assignedOf
+  operator-fault f e z = ap (λ (k : ℕ). assignedOf vs (judgedHere k)) (sym e) ∙ go f z
     where
-      go : (k : ℕ) → (k ≡ 0 → ⊥) → (judged k start >>= λ _. afterFault vs s n sign op) ≡ Refused k start
+      go : (k : ℕ) → (k ≡ 0 → ⊥) → assignedOf vs (judgedHere k) ≡ Refused k start
       go zero h = absurd (h refl)
       go (suc k) h = refl
 
-  pub operator-good : nameFault vs (op .adds) n ≡ 0 → afterOperator vs s n start sign op ≡ afterFault vs s n sign op
-  unfolding afterOperator
-  operator-good e = ap (λ (k : ℕ). judged k start >>= λ _. afterFault vs s n sign op) e
+  module _ {f : ℕ} (k : f ≡ nameFault vs (op .adds) n) (e : f ≡ 0) {new : List ℕ} {r : Opened} (o : Opening s new vs (op .adds) n r) {new′ : List ℕ} {v : ValuesRead}
+      (d : Valued s new new′ (r .w) (givenTo s new (r .w) (op .next)) v) where
+    abbrev thenValues : Reading Values → Reading State
+    thenValues x = assignedOf vs (x >>= afterValues n (op .adds) sign)
 
-module _ (s : List ℕ) (vs : List Variable) (adds : Bool) (n : List ℕ) (sign next : ℕ) (r : Opened) (o : Opening s vs adds n r) (v : ValuesRead)
-    (d : Valued s (r .vars) (r .w) (givenTo s (r .vars .table) (r .w) next) v) where
-  abbrev given : Operator
-  given = record { adds = adds; next = next }
+    operator-values : assignedOf vs (afterOperator vs s n start sign op) ≡ thenValues (givenTo s new (r .w) (op .next))
+    unfolding afterOperator afterFault
+    operator-values =
+        let j : 16 - length (valuesOf vs n) ≡ room new (r .w) =
+        ap (λ (l : List (List ℕ)). 16 - length l) (o .values) ∙ ap (λ (i : ℕ). 16 - i) (length-values s new (r .w)) in
+        ap (λ (i : ℕ). assignedOf vs (judgedHere i)) (sym k ∙ e)
+        ∙ ap₂ (λ (i : ℕ) (us : List Variable). thenValues (valuesAt i us s (op .next))) j (o .before)
 
-  fault-values : afterFault vs s n sign given ≡ (givenTo s (r .vars .table) (r .w) next >>= afterValues n adds sign)
-  unfolding afterFault
-  fault-values =
-      let k : 16 - length (valuesOf vs n) ≡ room (r .vars .table) (r .w) =
-      ap (λ (l : List (List ℕ)). 16 - length l) (o .values) ∙ ap (λ (i : ℕ). 16 - i) (length-values s (r .vars .table) (r .w)) in
-      ap₂ (λ (i : ℕ) (us : List Variable). valuesAt i us s next >>= afterValues n adds sign) k (o .before)
-
-  pub values-refused : v .refused ≡ true → afterFault vs s n sign given ≡ refusedBy (v .stop)
-  values-refused e = fault-values ∙ ap (λ (x : Reading Values). x >>= afterValues n adds sign) (d .refusal e)
-
-  module _ (e : v .refused ≡ false) where
-    pub values-none : v .given ≡ false → afterFault vs s n sign given ≡ Refused 4 sign
-    values-none g =
-        let q = d .stored e in
-        let z : eqb (length (q .values)) 0 ≡ true = go (eqb (length (q .values)) 0) (sym (q .some) ∙ g) in
-        fault-values ∙ ap (λ (x : Reading Values). x >>= afterValues n adds sign) (q .read) ∙ rw z
-      where
-        go : (x : Bool) → not x ≡ false → x ≡ true
-        go true h = refl
-        go false h = absurd (false≢true (sym h))
-
-    pub values-some : v .given ≡ true → assignedOf vs (afterFault vs s n sign given) ≡ Read (record { variables = held s (v .vars); next = v .next .0 })
+    pub values-refused : v .refused ≡ true → assignedOf vs (afterOperator vs s n start sign op) ≡ refusedBy (v .stop)
     unfolding assignedOf
-    values-some g =
-        let q = d .stored e in
-        let z : eqb (length (q .values)) 0 ≡ false = go (eqb (length (q .values)) 0) (sym (q .some) ∙ g) in
-        let c : min 32 (r .vars .count) ≡ min 32 (v .vars .count) = ap (min 32) (sym (d .count)) in
-        let x : assigned vs (record { name = n; adds = adds; values = q .values }) ≡ held s (v .vars) =
-        o .result (q .values)
-        ∙ sym (added-extended s (r .vars .table) n (v .vars .table) (q .values) (r .w) (q .added) (min 32 (r .vars .count)) (omega arith) (o .number))
-        ∙ ap (λ (i : ℕ). variables s (v .vars .table) i) c in
-        ap (assignedOf vs) (fault-values ∙ ap (λ (y : Reading Values). y >>= afterValues n adds sign) (q .read)) ∙ rw (z, x)
-      where
-        go : (x : Bool) → not x ≡ true → x ≡ false
-        go true h = absurd (false≢true h)
-        go false h = refl
+    values-refused q = operator-values ∙ ap thenValues (d .refusal q)
+
+    module _ (q : v .refused ≡ false) where
+      pub values-none : v .given ≡ false → assignedOf vs (afterOperator vs s n start sign op) ≡ Refused 4 sign
+      unfolding assignedOf
+      values-none g =
+          let z : eqb (length (d .stored q .values)) 0 ≡ true = go (eqb (length (d .stored q .values)) 0) (sym (d .stored q .some) ∙ g) in
+          operator-values ∙ ap thenValues (d .stored q .read) ∙ rw z
+        where
+          go : (x : Bool) → not x ≡ false → x ≡ true
+          go true h = refl
+          go false h = absurd (false≢true (sym h))
+
+      pub values-some : v .given ≡ true → assignedOf vs (afterOperator vs s n start sign op) ≡ Read (record { variables = env s new′ (r .count); next = v .next .0 })
+      unfolding assignedOf
+      values-some g =
+          let t = d .stored q in
+          let z : eqb (length (t .values)) 0 ≡ false = go (eqb (length (t .values)) 0) (sym (t .some) ∙ g) in
+          let x : assigned vs (record { name = n; adds = op .adds; values = t .values }) ≡ env s new′ (r .count) =
+          o .result (t .values)
+          ∙ sym (added-extended s new n new′ (t .values) (r .w) (t .added) (min 32 (r .count)) (omega arith) (o .number)) in
+          operator-values ∙ ap thenValues (t .read) ∙ rw (z, x)
+        where
+          go : (x : Bool) → not x ≡ true → x ≡ false
+          go true h = absurd (false≢true h)
+          go false h = refl
 
 -- an operator, or its refusal, after a name
 module _ (vs : List Variable) (s n : List ℕ) (start end sign : ℕ) (o : OperatorRead) (e : sign ≡ inLineAt s (end + 1)) (q : seenOperator o ≡ operatorFrom s (end + 1) sign) where
@@ -391,9 +413,9 @@ module _ (vs : List Variable) (s n : List ℕ) (start end sign : ℕ) (o : Opera
   unfolding seenOperator
   name-good adds next h = name-operator ∙ rw h
 
-  pub name-refused : (st : Stop) → o ≡ operator.Refused st → afterName vs s n start end ≡ refusedBy st
-  unfolding seenOperator
-  name-refused st h = name-operator ∙ rw h
+  pub name-refused : (st : Stop) → o ≡ operator.Refused st → assignedOf vs (afterName vs s n start end) ≡ refusedBy st
+  unfolding seenOperator assignedOf
+  name-refused st h = rw (name-operator, h)
 
 -- the name at a place is the bytes up to its end
 module _ (s : List ℕ) (start end : ℕ) (e : end ≡ start + run (plain (code "}")) (drop start s)) where
@@ -406,32 +428,33 @@ module _ (s : List ℕ) (start end : ℕ) (e : end ≡ start + run (plain (code 
   name-length = omega (arith, length-take (run (plain (code "}")) (drop start s)) (drop start s), run-le (plain (code "}")) (drop start s))
 
 module _ (vs : List Variable) (s : List ℕ) (p end : ℕ) (e : end ≡ p + 2 + run (plain (code "}")) (drop (p + 2) s)) where
-  pub assignment-open : begins (code "}") (drop end s) ≡ false → assignmentFrom vs s p ≡ Refused 4 p
-  unfolding assignmentFrom
+  pub assignment-open : begins (code "}") (drop end s) ≡ false → assignedOf vs (assignmentFrom vs s p) ≡ Refused 4 p
+  unfolding assignmentFrom assignedOf
   assignment-open b = rw (name-length s (p + 2) end e, b)
 
   module _ (b : begins (code "}") (drop end s) ≡ true) where
-    pub assignment-bad : variableForm (span s (p + 2) end) ≡ false → assignmentFrom vs s p ≡ Refused 6 (p + 2)
-    unfolding assignmentFrom
+    pub assignment-bad : variableForm (span s (p + 2) end) ≡ false → assignedOf vs (assignmentFrom vs s p) ≡ Refused 6 (p + 2)
+    unfolding assignmentFrom assignedOf
     assignment-bad f = rw (name-length s (p + 2) end e, b, name-span s (p + 2) end e, f)
 
-    pub assignment-good : variableForm (span s (p + 2) end) ≡ true → assignmentFrom vs s p ≡ afterName vs s (span s (p + 2) end) (p + 2) end
+    pub assignment-good : variableForm (span s (p + 2) end) ≡ true → {x : Reading State} →
+        x ≡ assignedOf vs (afterName vs s (span s (p + 2) end) (p + 2) end) → x ≡ assignedOf vs (assignmentFrom vs s p)
     unfolding assignmentFrom afterName afterOperator afterFault
-    assignment-good f = rw (name-length s (p + 2) end e, b, name-span s (p + 2) end e, f)
+    assignment-good f g = g ∙ rw (name-length s (p + 2) end e, b, name-span s (p + 2) end e, f)
 
-pub assignment-past : (vs : List Variable) (s : List ℕ) (p : ℕ) → length s ≤ p → assignmentFrom vs s p ≡ Refused 4 p
+pub assignment-past : (vs : List Variable) (s : List ℕ) (p : ℕ) → length s ≤ p → assignedOf vs (assignmentFrom vs s p) ≡ Refused 4 p
 assignment-past vs s p h =
     let end = p + 2 + run (plain (code "}")) (drop (p + 2) s) in
     assignment-open vs s p end refl (begins-end (code "}") s end (omega arith))
 
 -- ---- the preamble
 
-module _ (s : List ℕ) (r : PreambleRead) where
-  pub seen-refused : r .refused ≡ true → seenPreamble s r ≡ refusedBy (r .stop)
+module _ (s t : List ℕ) (r : PreambleRead) where
+  pub seen-refused : r .refused ≡ true → seenPreamble s t r ≡ refusedBy (r .stop)
   unfolding seenPreamble
   seen-refused e = rw e
 
-  pub seen-read : r .refused ≡ false → seenPreamble s r ≡ Read (record { variables = held s (r .vars); next = r .next .0 })
+  pub seen-read : r .refused ≡ false → seenPreamble s t r ≡ Read (record { variables = env s t (r .count); next = r .next .0 })
   unfolding seenPreamble
   seen-read e = rw e
 
@@ -477,6 +500,30 @@ module _ (vs : List Variable) (s : List ℕ) (at : ℕ) where
               let k : st ≡ record { variables = assigned vs (a .assignment); next = a .next } = cc in
               rw (k, e, q, preambleAt) (last (a .assignment) (preambleAt left (assigned vs (a .assignment)) s (a .next)))
           go (Refused m r) q h = let z : _≡_ {A = ℕ} 0 1 = cc in absurd (omega arith)
+
+-- a turn of reading assignments, at whose end the table is t′
+module _ (s t : List ℕ) (n at left : ℕ) {whole : Reading State} (inv : preambleOf (preambleAt left (env s t n) s at) ≡ whole)
+    (e : standsAt (bytes "@{") s at ≡ true) {p : ℕ} (i : p ≡ standing s at) (t′ : List ℕ) (r : PreambleRead)
+    (q : seenPreamble s t′ r ≡ assignedOf (env s t n) (assignmentFrom (env s t n) s p)) where
+  turn : assignedOf (env s t n) (assignmentFrom (env s t n) s (standing s at)) ≡ seenPreamble s t′ r
+  turn = rw (← i) (sym q)
+
+  pub turn-refused : r .refused ≡ true → seenPreamble s t′ r ≡ whole
+  turn-refused h =
+      let f = seen-refused s t′ r h in
+      f ∙ sym (preamble-refused (env s t n) s at e left (r .stop .number) (r .stop .place .0) (turn ∙ f)) ∙ inv
+
+  module _ (h : r .refused ≡ false) where
+    abbrev state : State
+    state = record { variables = env s t′ (r .count); next = r .next .0 }
+
+    pub turn-full : left ≡ 0 → Refused 9 p ≡ whole
+    turn-full z = rw (i, ← preamble-full (env s t n) s at e state (turn ∙ seen-read s t′ r h)) (rw z at inv)
+
+    pub turn-more : (left ≡ 0 → ⊥) → preambleOf (preambleAt (left - 1) (env s t′ (r .count)) s (r .next .0)) ≡ whole
+    turn-more z =
+        let k : left ≡ suc (left - 1) = omega arith in
+        sym (preamble-more (env s t n) s at e state (left - 1) (turn ∙ seen-read s t′ r h)) ∙ (rw k at inv)
 
 -- the variables of a preamble are those that its assignments set
 pub preamble-sets : (left : ℕ) (vs : List Variable) (s : List ℕ) (at : ℕ) (p : Preamble) → preambleAt left vs s at ≡ Read p → p .variables ≡ finalSets vs (p .assignments)

@@ -20,11 +20,6 @@ use Rattle.preamble.specs.declared.OperatorRead.the-variants as operator
 use Rattle.preamble.specs.declared.ValuesRead.{ValuesRead}
 use Rattle.preamble.specs.declared.Opened.{Opened}
 use Rattle.preamble.specs.declared.PreambleRead.{PreambleRead}
-use Rattle.variables.specs.declared.Variables as code
-
--- the variables of a table
-abbrev pub held : List ℕ → code.Variables → List Variable
-held s v = env s (v .table) (v .count)
 
 -- what follows a name's first letter
 abbrev pub nameByte : ℕ → Bool
@@ -59,27 +54,26 @@ pub record Upto (text old : List ℕ) (w at : ℕ) (new : List ℕ) (next : ℕ)
   pub some : given ≡ not (eqb (length values) 0)
 
 -- the values that were read are stored, and some were, or none
-pub record Stored (text old : List ℕ) (w : ℕ) (x : Reading Values) (r : ValuesRead) : Type 0 where
+pub record Stored (text old new : List ℕ) (w : ℕ) (x : Reading Values) (r : ValuesRead) : Type 0 where
   pub values : List (List ℕ)
   pub read : x ≡ Read (record { values = values; next = r .next .0 })
-  pub added : Added text old (r .vars .table) w values
+  pub added : Added text old new w values
   pub some : r .given ≡ not (eqb (length values) 0)
 
 -- the values of variable w, or their refusal
-pub record Valued (text : List ℕ) (vars : code.Variables) (w : ℕ) (x : Reading Values) (r : ValuesRead) : Type 0 where
+pub record Valued (text old new : List ℕ) (w : ℕ) (x : Reading Values) (r : ValuesRead) : Type 0 where
   pub refusal : r .refused ≡ true → x ≡ refusedBy (r .stop)
-  pub stored : r .refused ≡ false → Stored text (vars .table) w x r
-  pub count : r .vars .count ≡ vars .count
+  pub stored : r .refused ≡ false → Stored text old new w x r
 
 -- ---- assignments
 
 -- the variable that is given values: the one set, or a new one without values
-pub record Opening (text : List ℕ) (vs : List Variable) (adds : Bool) (name : List ℕ) (r : Opened) : Type 0 where
+pub record Opening (text new : List ℕ) (vs : List Variable) (adds : Bool) (name : List ℕ) (r : Opened) : Type 0 where
   pub low : r .w < 32
-  pub number : numberOf text (r .vars .table) (min 32 (r .vars .count)) name ≡ suc (r .w)
-  pub before : usable vs adds name ≡ variables text (r .vars .table) (r .w)
-  pub values : valuesOf vs name ≡ heldValues text (r .vars .table) (r .w)
-  pub result : (ws : List (List ℕ)) → assigned vs (record { name = name; adds = adds; values = ws }) ≡ extended (held text (r .vars)) name ws
+  pub number : numberOf text new (min 32 (r .count)) name ≡ suc (r .w)
+  pub before : usable vs adds name ≡ variables text new (r .w)
+  pub values : valuesOf vs name ≡ heldValues text new (r .w)
+  pub result : (ws : List (List ℕ)) → assigned vs (record { name = name; adds = adds; values = ws }) ≡ extended (env text new (r .count)) name ws
 
 -- an assignment after its values
 abbrev pub afterValues : (n : List ℕ) → (adds : Bool) → (sign : ℕ) → Values → Reading Assigned
@@ -108,8 +102,8 @@ pub record State : Type 0 where
   pub variables : List Variable
   pub next : ℕ
 
-unfoldable pub seenPreamble : List ℕ → PreambleRead → Reading State
-seenPreamble s r = if r .refused then refusedBy (r .stop) else Read (record { variables = held s (r .vars); next = r .next .0 })
+unfoldable pub seenPreamble : (text vars : List ℕ) → PreambleRead → Reading State
+seenPreamble s t r = if r .refused then refusedBy (r .stop) else Read (record { variables = env s t (r .count); next = r .next .0 })
 
 unfoldable pub assignedOf : List Variable → Reading Assigned → Reading State
 assignedOf vs (Read a) = Read (record { variables = assigned vs (a .assignment); next = a .next })

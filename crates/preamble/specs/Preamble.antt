@@ -7,7 +7,8 @@ use lib.ListN.{length, take, drop}
 use lib.Dec.{eqb, leb}
 use Rattle.scan.specs.Bytes.{begins, bytes, isEmpty, run, same, if_then_else_}
 use Rattle.text.specs.Reading.{Reading, Read, Refused, _>>=_, refuseIf, judged}
-use Rattle.text.specs.Tokens.{hash, inLine, noStop, nul, blank, quote, standing, standsAt, tokenAt, wanted}
+use Rattle.blanks.specs.Blanks.{hash, inLine, nul, blank, standing, standsAt}
+use Rattle.tokens.specs.Tokens.{noStop, quote, tokenAt, wanted}
 use Rattle.pattern.specs.Expansions.{Variable, isSet}
 use Rattle.pattern.specs.Faults.{valueFault}
 use Rattle.preamble.specs.Variables.{Assignment, variableForm, valuesOf, setBefore, assigned}

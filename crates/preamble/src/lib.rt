@@ -1,21 +1,19 @@
 // The assignments in front of the profiles.
+use blanks::standing_at;
+use blanks::stands_at;
 use faults::value_fault;
-use pattern::begins_at;
-use pattern::named;
+use scan::begins_at;
 use scan::span;
 use text::BAD_FORM;
 use text::Place;
-use text::Read;
 use text::Stop;
 use text::bytes_from;
-use text::next_token;
-use text::plain_end;
-use text::standing_at;
-use text::stands_at;
 use text::starts_with;
-use text::stop_of;
-use variables::Variables;
-use variables::no_variables;
+use tokens::Read;
+use tokens::next_token;
+use tokens::plain_end;
+use tokens::stop_of;
+use variables::named;
 use variables::value_count;
 use variables::with_name;
 use variables::with_value;
@@ -25,13 +23,13 @@ ghost use mathlib.Core.Bool.{true};
 ghost use Prim.Native.Nat.{ℕ, _+_, _<_};
 ghost use lib.ListN.{length, drop};
 ghost use Rattle.scan.specs.Bytes.{letter, run, span};
-ghost use Rattle.text.specs.Tokens.{inLine, plain};
+ghost use Rattle.blanks.specs.Blanks.{inLine};
 ghost use Rattle.text.specs.Reading.{Refused};
 ghost use Rattle.pattern.specs.Table.{env};
 ghost use Rattle.variables.specs.Added.{room};
 ghost use Rattle.preamble.specs.Variables.{variableForm};
 ghost use Rattle.preamble.specs.Preamble.{assignmentFrom, inLineAt, lineEnds, nameFault, operatorFrom, preambleAt};
-ghost use Rattle.preamble.specs.Places.{afterName, afterOperator, assignedOf, givenTo, held, nameByte, nextFault, Opening, preambleOf, seenOperator, seenPreamble, Valued};
+ghost use Rattle.preamble.specs.Places.{afterName, afterOperator, assignedOf, givenTo, nameByte, nextFault, Opening, preambleOf, seenOperator, seenPreamble, Valued};
 
 // The numbers of refusals besides bad form: a bad name, a size.
 pub const BAD_NAME: u8 = 6;
@@ -44,26 +42,25 @@ pub enum OperatorRead {
     Refused(Stop),
 }
 
-// The variables with the values that were read, whether there was one, and where reading goes on.
+// The refusal, or whether a value was read and where reading goes on.
 pub struct ValuesRead {
     pub refused: bool,
     pub stop: Stop,
-    pub vars: Variables,
     pub given: bool,
     pub next: Place,
 }
 
-// The variables, and which of them is given values.
+// How many variables are set, and which of them is given values.
 pub struct Opened {
-    pub vars: Variables,
+    pub count: usize,
     pub w: usize,
 }
 
-// The refusal, or the variables that are set and where reading goes on.
+// The refusal, or how many variables are set and where reading goes on.
 pub struct PreambleRead {
     pub refused: bool,
     pub stop: Stop,
-    pub vars: Variables,
+    pub count: usize,
     pub next: Place,
 }
 
@@ -142,13 +139,6 @@ fn line_ends(text: &[u8], at: usize) -> bool
     true
 }
 
-// Where the name at a place ends.
-fn name_end(text: &[u8], at: usize) -> usize
-    ensures { λ r. ⌜ r ≡ at + run (plain 125) (drop at (now (text .entry))) ⌝ }
-{
-    plain_end(text, at, b'}')
-}
-
 // The operator at sign, which stands next in the line after a name.
 fn operator_at(text: &[u8], after: Place, sign: Place) -> OperatorRead
     ensures { λ r. ⌜ seenOperator r ≡ operatorFrom (now (text .entry)) (after .0) (sign .0) ⌝ }
@@ -209,26 +199,11 @@ fn next_fault(text: &[u8], vars: &[usize; 1120], w: usize, a: usize, e: usize) -
     TOO_MANY
 }
 
-// The refusal of a value.
-fn values_refused(vars: Variables, stop: Stop) -> ValuesRead
-    ensures { λ r. ⌜ (r .refused ≡ true) × ((r .stop ≡ stop) × (r .vars ≡ vars)) ⌝ }
-{
-    let place = stop.place;
-    ValuesRead {
-        refused: true,
-        stop,
-        vars,
-        given: false,
-        next: place,
-    }
-}
-
 // Gives variable w the values from a place on up to the line's end.
-fn values_at(text: &[u8], vars: Variables, w: usize, at: Place) -> ValuesRead
+fn values_at(text: &[u8], vars: &mut [usize; 1120], w: usize, at: Place) -> ValuesRead
     requires { ⌜ w < 32 ⌝ }
-    ensures { λ r. ⌜ Valued (now (text .entry)) vars w (givenTo (now (text .entry)) (vars .table) w (at .0)) r ⌝ }
+    ensures { λ r. ⌜ Valued (now (text .entry)) (now (vars .entry)) (now (vars .exit)) w (givenTo (now (text .entry)) (now (vars .entry)) w (at .0)) r ⌝ }
 {
-    let mut held = vars;
     let mut place = at;
     let mut given = false;
     loop {
@@ -238,149 +213,172 @@ fn values_at(text: &[u8], vars: Variables, w: usize, at: Place) -> ValuesRead
             return ValuesRead {
                 refused: false,
                 stop: Stop { number: 0, place },
-                vars: held,
                 given,
                 next: Place(p),
             };
         }
         let r = next_token(text, Place(p), 0);
         let Read::Found(t) = r else {
-            return values_refused(held, stop_of(text, r));
+            let stop = stop_of(text, r);
+            return ValuesRead {
+                refused: true,
+                stop,
+                given,
+                next: place,
+            };
         };
         let a = t.from.0;
         let e = t.end.0;
-        let number = next_fault(text, &held.table, w, a, e);
+        let number = next_fault(text, vars, w, a, e);
         if number != 0 {
-            let place = t.start;
-            return values_refused(held, Stop { number, place });
+            let start = t.start;
+            return ValuesRead {
+                refused: true,
+                stop: Stop {
+                    number,
+                    place: start,
+                },
+                given,
+                next: place,
+            };
         }
-        held = with_value(held, w, a, e);
+        with_value(vars, w, a, e);
         place = t.next;
         given = true;
     }
 }
 
 // The variable that is given values: the one of that name, or a new one.
-fn open_name(text: &[u8], vars: Variables, adds: bool, start: usize, end: usize) -> Opened
-    requires { ⌜ nameFault (held (now text) vars) adds (span (now text) start end) ≡ 0 ⌝ }
-    ensures { λ r. ⌜ Opening (now (text .entry)) (held (now (text .entry)) vars) adds (span (now (text .entry)) start end) r ⌝ }
+fn open_name(
+    text: &[u8],
+    vars: &mut [usize; 1120],
+    n: usize,
+    adds: bool,
+    start: usize,
+    end: usize,
+) -> Opened
+    requires { ⌜ nameFault (env (now text) (now vars) n) adds (span (now text) start end) ≡ 0 ⌝ }
+    ensures { λ r. ⌜ Opening (now (text .entry)) (now (vars .exit)) (env (now (text .entry)) (now (vars .entry)) n) adds (span (now (text .entry)) start end) r ⌝ }
 {
-    let n = vars.count;
     if adds {
-        let number = named(text, &vars.table, n, start, end);
+        let found = named(text, vars, n, start, end);
         return Opened {
-            vars,
-            w: number - 1,
+            count: n,
+            w: found - 1,
         };
     }
-    Opened {
-        vars: with_name(vars, start, end),
-        w: n,
-    }
+    with_name(vars, n, start, end);
+    Opened { count: n + 1, w: n }
 }
 
 // A refusal.
-fn refused_at(vars: Variables, number: u8, place: Place) -> PreambleRead
-    ensures { λ r. ⌜ ((text : List ℕ) → seenPreamble text r ≡ Refused number (place .0)) ⌝ }
+fn refused_at(number: u8, place: Place) -> PreambleRead
+    ensures { λ r. ⌜ ((text vars : List ℕ) → seenPreamble text vars r ≡ Refused number (place .0)) ⌝ }
 {
     PreambleRead {
         refused: true,
         stop: Stop { number, place },
-        vars,
+        count: 0,
         next: place,
     }
 }
 
-// The variables after the assignment whose name stands from start to before end and whose operator stands at sign.
+// The first n variables after the assignment whose name stands from start to before end and whose operator stands at sign.
 fn after_operator(
     text: &[u8],
-    vars: Variables,
+    vars: &mut [usize; 1120],
+    n: usize,
     start: usize,
     end: usize,
     sign: usize,
     adds: bool,
     next: Place,
 ) -> PreambleRead
-    ensures { λ r. ⌜ seenPreamble (now (text .entry)) r ≡ assignedOf (held (now (text .entry)) vars) (afterOperator (held (now (text .entry)) vars) (now (text .entry)) (span (now (text .entry)) start end) start sign (record { adds = adds; next = next .0 })) ⌝ }
+    ensures { λ r. ⌜ seenPreamble (now (text .entry)) (now (vars .exit)) r ≡ assignedOf (env (now (text .entry)) (now (vars .entry)) n) (afterOperator (env (now (text .entry)) (now (vars .entry)) n) (now (text .entry)) (span (now (text .entry)) start end) start sign (record { adds = adds; next = next .0 })) ⌝ }
 {
-    let fault = name_fault(text, &vars.table, vars.count, adds, start, end);
+    let fault = name_fault(text, vars, n, adds, start, end);
     if fault != 0 {
-        return refused_at(vars, fault, Place(start));
+        return refused_at(fault, Place(start));
     }
-    let o = open_name(text, vars, adds, start, end);
-    let opened = o.vars;
-    let v = values_at(text, opened, o.w, next);
+    let o = open_name(text, vars, n, adds, start, end);
+    let v = values_at(text, vars, o.w, next);
     let stop = v.stop;
-    let set = v.vars;
     let place = v.next;
     if v.refused {
-        return refused_at(set, stop.number, stop.place);
+        return refused_at(stop.number, stop.place);
     }
     if v.given {
         return PreambleRead {
             refused: false,
             stop,
-            vars: set,
+            count: o.count,
             next: place,
         };
     }
-    refused_at(set, BAD_FORM, Place(sign))
+    refused_at(BAD_FORM, Place(sign))
 }
 
-// The variables after the assignment whose name stands from start to before end.
-fn after_name(text: &[u8], vars: Variables, start: usize, end: usize) -> PreambleRead
+// The first n variables after the assignment whose name stands from start to before end.
+fn after_name(
+    text: &[u8],
+    vars: &mut [usize; 1120],
+    n: usize,
+    start: usize,
+    end: usize,
+) -> PreambleRead
     requires { ⌜ end < length (now text) ⌝ }
-    ensures { λ r. ⌜ seenPreamble (now (text .entry)) r ≡ assignedOf (held (now (text .entry)) vars) (afterName (held (now (text .entry)) vars) (now (text .entry)) (span (now (text .entry)) start end) start end) ⌝ }
+    ensures { λ r. ⌜ seenPreamble (now (text .entry)) (now (vars .exit)) r ≡ assignedOf (env (now (text .entry)) (now (vars .entry)) n) (afterName (env (now (text .entry)) (now (vars .entry)) n) (now (text .entry)) (span (now (text .entry)) start end) start end) ⌝ }
 {
     let sign = in_line_at(text, end + 1);
     let o = operator_at(text, Place(end + 1), Place(sign));
     match o {
         OperatorRead::Good { adds, next } => {
-            after_operator(text, vars, start, end, sign, adds, next)
+            after_operator(text, vars, n, start, end, sign, adds, next)
         }
         OperatorRead::Refused(s) => {
             let place = s.place;
-            refused_at(vars, s.number, place)
+            refused_at(s.number, place)
         }
     }
 }
 
-// The variables after the assignment that starts with the @{ at p.
-fn assignment_from(text: &[u8], vars: Variables, p: Place) -> PreambleRead
-    ensures { λ r. ⌜ seenPreamble (now (text .entry)) r ≡ assignedOf (held (now (text .entry)) vars) (assignmentFrom (held (now (text .entry)) vars) (now (text .entry)) (p .0)) ⌝ }
+// The first n variables after the assignment that starts with the @{ at p.
+fn assignment_from(text: &[u8], vars: &mut [usize; 1120], n: usize, p: Place) -> PreambleRead
+    ensures { λ r. ⌜ seenPreamble (now (text .entry)) (now (vars .exit)) r ≡ assignedOf (env (now (text .entry)) (now (vars .entry)) n) (assignmentFrom (env (now (text .entry)) (now (vars .entry)) n) (now (text .entry)) (p .0)) ⌝ }
 {
     let at = p.0;
     if text.len() <= at {
-        return refused_at(vars, BAD_FORM, p);
+        return refused_at(BAD_FORM, p);
     }
     let start = at + 2;
-    let end = name_end(text, start);
+    let end = plain_end(text, start, b'}');
     if begins_at(text, end, b'}') {
         if variable_form(span(text, start, end)) {
-            return after_name(text, vars, start, end);
+            return after_name(text, vars, n, start, end);
         }
-        return refused_at(vars, BAD_NAME, Place(start));
+        return refused_at(BAD_NAME, Place(start));
     }
-    refused_at(vars, BAD_FORM, p)
+    refused_at(BAD_FORM, p)
 }
 
-// The variables that the assignments in front of the profiles set, and where the first profile may stand.
-pub fn preamble_at(text: &[u8]) -> PreambleRead
-    ensures { λ r. ⌜ seenPreamble (now (text .entry)) r ≡ preambleOf (preambleAt 512 [] (now (text .entry)) 0) ⌝ }
+// Sets the variables of the assignments in front of the profiles, and says where the first profile may stand.
+// What stood in the table before is of no matter; what a refusal leaves in it says nothing.
+pub fn preamble_at(text: &[u8], vars: &mut [usize; 1120]) -> PreambleRead
+    ensures { λ r. ⌜ seenPreamble (now (text .entry)) (now (vars .exit)) r ≡ preambleOf (preambleAt 512 [] (now (text .entry)) 0) ⌝ }
 {
-    let mut vars = no_variables();
+    let mut count: usize = 0;
     let mut at = Place(0);
     let mut left: usize = 512;
     while stands_at(text, at, b"@{") {
         let p = standing_at(text, at);
-        let a = assignment_from(text, vars, p);
+        let a = assignment_from(text, vars, count, p);
         if a.refused {
             return a;
         }
         if left == 0 {
-            return refused_at(vars, TOO_MANY, p);
+            return refused_at(TOO_MANY, p);
         }
-        vars = a.vars;
+        count = a.count;
         at = a.next;
         left -= 1;
     }
@@ -390,7 +388,7 @@ pub fn preamble_at(text: &[u8]) -> PreambleRead
             number: 0,
             place: at,
         },
-        vars,
+        count,
         next: at,
     }
 }

@@ -1,6 +1,7 @@
 // Writing to standard output, for the programs.
 use libc::STDOUT_FILENO;
-use perms::Execute;
+use modes::Execute;
+use scan::span;
 ghost use mathlib.Core.Path.{_≡_};
 ghost use mathlib.Core.Bool.{not};
 ghost use lib.Dec.{eqb};
@@ -15,28 +16,36 @@ pub fn put_number(n: u64) {
     io::print_decimal(STDOUT_FILENO, n);
 }
 
-// Writes an execute answer as document 01 writes it, by its number.
+// The execute answers as document 01 writes them, in the order of their numbers, and where each begins.
+const EXECUTES: [u8; 53] = *b"-deniedconflictuxUxpxPxcxCxixpixPixcixCixpuxPUxcuxCUx";
+
+const STARTS: [usize; 19] = [
+    0,
+    1,
+    7,
+    15,
+    17,
+    19,
+    21,
+    23,
+    25,
+    27,
+    29,
+    32,
+    35,
+    38,
+    41,
+    44,
+    47,
+    50,
+    53,
+];
+
+// Writes an execute answer by its number.
 pub fn put_execute(execute: Execute) {
-    match execute.number() {
-        0 => put(b"-"),
-        1 => put(b"denied"),
-        2 => put(b"conflict"),
-        3 => put(b"ux"),
-        4 => put(b"Ux"),
-        5 => put(b"px"),
-        6 => put(b"Px"),
-        7 => put(b"cx"),
-        8 => put(b"Cx"),
-        9 => put(b"ix"),
-        10 => put(b"pix"),
-        11 => put(b"Pix"),
-        12 => put(b"cix"),
-        13 => put(b"Cix"),
-        14 => put(b"pux"),
-        15 => put(b"PUx"),
-        16 => put(b"cux"),
-        17 => put(b"CUx"),
-        _ => put(b"?"),
+    let n = execute.number() as usize;
+    if n < 18 {
+        put(span(&EXECUTES, STARTS[n], STARTS[n + 1]));
     }
 }
 

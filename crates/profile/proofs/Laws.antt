@@ -11,52 +11,39 @@ use native.Mathlib.Omega.{arith}
 use borrow.Author.Tests.{le-leb, leb-false, lt-leb}
 use Rattle.scan.specs.Bytes.{bytes, same, some, span}
 use Rattle.text.specs.Reading.{Reading, Read, Refused, _>>=_, refuseIf, lineOf}
-use Rattle.text.specs.Tokens.{Token, noStop, standing, tokenAt}
-use Rattle.text.specs.Words.{firstWord, notTaken}
+use Rattle.tokens.specs.Tokens.{Token, noStop, tokenAt}
+use Rattle.blanks.specs.Blanks.{standing}
+use Rattle.keywords.specs.Keywords.{firstWord, notTaken}
 use Rattle.text.specs.declared.Place.{Place}
+use Rattle.text.specs.declared.Stop.{Stop}
 use Rattle.pattern.specs.Expansions.{Variable}
-use Rattle.pattern.specs.Table.{bytesAt}
+use Rattle.pattern.specs.Table.{bytesAt, env}
 use Rattle.rule.specs.Rules.{RuleRead, RulesRead, ifWord, rulesAt}
-use Rattle.rule.specs.Places.{spanOf}
-use Rattle.rule.specs.declared.Span.{Span}
-use Rattle.rules.specs.Steps.{Step, More, Close, Counted, counted, endAt, followed, noRules, ruleAt, rulesFrom}
-use Rattle.rules.proofs.Laws.{onward, rules-by, rules-end}
-use Rattle.variables.specs.declared.Variables.{Variables}
+use Rattle.text.specs.Places.{refusedBy, spanOf}
+use Rattle.text.specs.declared.Span.{Span}
+use Rattle.statement.specs.Steps.{Step, More, Close, Counted, counted, endAt, followed, noRules, ruleAt, rulesFrom}
+use Rattle.body.specs.Places.{seenRules}
+use Rattle.body.specs.declared.RulesRead as code
+use Rattle.body.specs.declared.RulesRead.the-variants as rules-read
+use Rattle.statement.proofs.Laws.{onward, rules-by, rules-end}
 use Rattle.preamble.specs.Variables.{finalSets}
 use Rattle.preamble.specs.Preamble.{Preamble, preambleAt}
-use Rattle.preamble.specs.Places.{State, held, preambleOf, seenPreamble}
+use Rattle.preamble.specs.Places.{State, preambleOf, seenPreamble}
 use Rattle.preamble.specs.declared.PreambleRead.{PreambleRead}
 use Rattle.preamble.proofs.Laws.{preamble-sets}
-use Rattle.profile.specs.Profiles.{Profile, Head, ends, fileOf, headAt, nameAt, profilesAt}
-use Rattle.profile.specs.Places.{Judged, Accepted, Rejected, OneMore, OneProfile, judgedOf, nameFrom, namesOf, oneProfile, profileAt, profileOf, profilesFrom, profilesOf, seenFile, seenProfiles}
+use Rattle.heads.specs.Heads.{Head, headAt, nameAt}
+use Rattle.heads.specs.Places.{namesOf, seenHead}
+use Rattle.heads.specs.declared.HeadRead.{HeadRead}
+use Rattle.heads.specs.declared.HeadRead.the-variants as head
+use Rattle.profile.specs.Profiles.{Profile, ends, fileOf, profilesAt}
+use Rattle.profile.specs.Places.{Judged, Accepted, Rejected, OneMore, OneProfile, judgedOf, oneProfile, profileAt, profileOf, profilesFrom, profilesOf, seenFile, seenProfile, seenProfiles}
 use Rattle.profile.specs.declared.Profiles.{Profiles}
+use Rattle.profile.specs.declared.ProfileRead.{ProfileRead}
+use Rattle.profile.specs.declared.ProfileRead.the-variants as profile-read
 use Rattle.profile.specs.declared.ProfilesRead.{ProfilesRead}
 use Rattle.profile.specs.declared.FileRead.{FileRead}
 
 -- ---- heads
-
--- a name after the word profile
-pub name-word : (s : List ℕ) (at n : ℕ) → ifWord (bytes "profile") at (tokenAt noStop s at) ≡ record { found = true; next = n } → nameAt s at ≡ nameFrom false s n
-unfolding nameAt nameFrom
-name-word s at n e = rw (e, nameAt) (rw e)
-
--- the profile looked at has the name, or has not; none is left
-module _ (text t name : List ℕ) where
-  pub names-hit : (i : ℕ) → 0 < i → same name (bytesAt text t (4 * (i - 1))) ≡ true → some (same name) (namesOf text t i) ≡ true
-  unfolding some namesOf
-  names-hit zero h e = absurd (omega arith)
-  names-hit (suc i) h e = let k : suc i - 1 ≡ i = omega arith in rw (rw k at e, some)
-
-  pub names-miss : (i : ℕ) → 0 < i → same name (bytesAt text t (4 * (i - 1))) ≡ false →
-      some (same name) (namesOf text t i) ≡ some (same name) (namesOf text t (i - 1))
-  unfolding some namesOf
-  names-miss zero h e = absurd (omega arith)
-  names-miss (suc i) h e = let k : suc i - 1 ≡ i = omega arith in rw (k, rw k at e, some)
-
-  pub names-none : (i : ℕ) → i ≤ 0 → some (same name) (namesOf text t i) ≡ false
-  unfolding some namesOf
-  names-none zero h = refl
-  names-none (suc i) h = absurd (omega arith)
 
 -- where no more profile is allowed, no head is read
 head-full : (used : List (List ℕ)) (s : List ℕ) (at : ℕ) {h : Head} → headAt true used s at ≡ Read h → ⊥
@@ -99,12 +86,12 @@ rules-again (suc left) vs s at rs e = go (λ r. rules-again left vs s (r .next))
 -- ---- one profile
 
 module _ (full : Bool) (left : ℕ) (used : List (List ℕ)) (vs : List Variable) (s : List ℕ) (at : ℕ) where
-  pub profile-refused : {n p : ℕ} → headAt full used s at ≡ Refused n p → profileAt full left used vs s at ≡ Refused n p
+  profile-refused : {n p : ℕ} → headAt full used s at ≡ Refused n p → profileAt full left used vs s at ≡ Refused n p
   unfolding profileAt
   profile-refused e = rw (e, profileAt)
 
   module _ (h : Head) (e : headAt full used s at ≡ Read h) where
-    pub profile-rules-refused : {n p : ℕ} → counted (rulesAt left vs s (h .next)) ≡ Refused n p → profileAt full left used vs s at ≡ Refused n p
+    profile-rules-refused : {n p : ℕ} → counted (rulesAt left vs s (h .next)) ≡ Refused n p → profileAt full left used vs s at ≡ Refused n p
     unfolding profileAt counted
     profile-rules-refused {n} {p} f = rw (e, profileAt) (go (rulesAt left vs s (h .next)) f)
       where
@@ -112,7 +99,7 @@ module _ (full : Bool) (left : ℕ) (used : List (List ℕ)) (vs : List Variable
         go (Read rs) q = let z : _≡_ {A = ℕ} 0 1 = cc in absurd (omega arith)
         go (Refused m r) q = cc
 
-    pub profile-good : {k n : ℕ} → counted (rulesAt left vs s (h .next)) ≡ Read (record { count = k; next = n }) →
+    profile-good : {k n : ℕ} → counted (rulesAt left vs s (h .next)) ≡ Read (record { count = k; next = n }) →
         profileAt full left used vs s at ≡ Read (record { profile = record { name = h .name; rules = rulesFrom k vs s (h .next) }; count = k; next = n })
     unfolding profileAt counted
     profile-good {k} {n} f = rw (e, profileAt) (go (rulesAt left vs s (h .next)) refl f)
@@ -127,7 +114,27 @@ module _ (full : Bool) (left : ℕ) (used : List (List ℕ)) (vs : List Variable
             rw (i, j, rules-again left vs s (h .next) rs r .0)
         go (Refused m p) r q = let z : _≡_ {A = ℕ} 0 1 = cc in absurd (omega arith)
 
-  pub profile-left : {x : OneProfile} → profileAt full left used vs s at ≡ Read x → x .count ≤ left
+  -- by the head and the rules that were read
+  module _ (r : HeadRead) (e : seenHead s r ≡ headAt full used s at) where
+    pub by-head-refused : (stop : Stop) → r ≡ head.Refused stop → profileAt full left used vs s at ≡ refusedBy stop
+    unfolding seenHead
+    by-head-refused stop g = profile-refused (rw (← e, g))
+
+    module _ (name : Span) (next : Place) (g : r ≡ head.Good name next) (rs : code.RulesRead) (f : seenRules rs ≡ counted (rulesAt left vs s (next .0))) where
+      read-head : headAt full used s at ≡ Read (record { name = spanOf s name; next = next .0 })
+      unfolding seenHead
+      read-head = rw (← e, g)
+
+      pub by-rules-refused : (stop : Stop) → rs ≡ rules-read.Refused stop → profileAt full left used vs s at ≡ refusedBy stop
+      unfolding seenRules
+      by-rules-refused stop h = profile-rules-refused (record { name = spanOf s name; next = next .0 }) read-head (rw (← f, h))
+
+      pub by-rules-good : (k : ℕ) (past : Place) → rs ≡ rules-read.Good k past →
+          profileAt full left used vs s at ≡ Read (record { profile = record { name = spanOf s name; rules = rulesFrom k vs s (next .0) }; count = k; next = past .0 })
+      unfolding seenRules
+      by-rules-good k past h = profile-good (record { name = spanOf s name; next = next .0 }) read-head (rw (← f, h))
+
+  profile-left : {x : OneProfile} → profileAt full left used vs s at ≡ Read x → x .count ≤ left
   unfolding profileAt
   profile-left {x} e = go (headAt full used s at) e
     where
@@ -230,7 +237,7 @@ module _ (vs : List Variable) (s : List ℕ) (p : Profiles) (left at : ℕ) wher
       ∙ ap Read (append-nil (profilesFrom vs s (p .table) (p .count) 0))
 
   module _ (low : p .count ≤ 32) where
-    pub read-room : {x : OneProfile} → nextOf vs s p left at ≡ Read x → p .count < 32
+    read-room : {x : OneProfile} → nextOf vs s p left at ≡ Read x → p .count < 32
     read-room {x} e = go (leb 32 (p .count)) refl
       where
         go : (b : Bool) → leb 32 (p .count) ≡ b → p .count < 32
@@ -238,7 +245,7 @@ module _ (vs : List Variable) (s : List ℕ) (p : Profiles) (left at : ℕ) wher
         go false q = leb-false _ _ q
 
     module _ (e : ends (tokenAt noStop s at) ≡ false) where
-      pub read-refused : {n q : ℕ} → nextOf vs s p left at ≡ Refused n q → readFrom vs s p left at ≡ Refused n q
+      read-refused : {n q : ℕ} → nextOf vs s p left at ≡ Refused n q → readFrom vs s p left at ≡ Refused n q
       unfolding after
       read-refused {n} {q} f =
           ap (after (profilesFrom vs s (p .table) (p .count) 0)) (go (32 - p .count) refl)
@@ -248,7 +255,7 @@ module _ (vs : List Variable) (s : List ℕ) (p : Profiles) (left at : ℕ) wher
           go (suc m) k = rw k (profiles-by left (namesOf s (p .table) (p .count)) vs s at e m ∙ rw (rw (lt-leb 32 (p .count) (omega arith)) at f))
 
       -- one profile more
-      pub read-more : {name : Span} {rules : Place} {k n : ℕ} {new : Profiles} → OneMore p name rules k new →
+      read-more : {name : Span} {rules : Place} {k n : ℕ} {new : Profiles} → OneMore p name rules k new →
           nextOf vs s p left at ≡ Read (record { profile = record { name = spanOf s name; rules = rulesFrom k vs s (rules .0) }; count = k; next = n }) →
           readFrom vs s p left at ≡ readFrom vs s new (left - k) n
       read-more {name} {rules} {k} {n} {new} w f =
@@ -262,6 +269,26 @@ module _ (vs : List Variable) (s : List ℕ) (p : Profiles) (left at : ℕ) wher
           ∙ ap (after ps) (profiles-by left used vs s at e (32 - new .count) ∙ rw (rw b at f))
           ∙ after-one ps x (profilesAt (32 - new .count) (left - k) (spanOf s name ∷ used) vs s n)
           ∙ ap₂ (λ (l : List Profile) (u : List (List ℕ)). after l (profilesAt (32 - new .count) (left - k) u vs s n)) (sym (w .last vs s)) (sym (w .names s))
+
+-- a turn of reading profiles, by what was read
+module _ (vs : List Variable) (s : List ℕ) (p : Profiles) (left at : ℕ) (low : p .count ≤ 32) (r : ProfileRead) (e : seenProfile vs s r ≡ nextOf vs s p left at) where
+  pub turn-refused : ends (tokenAt noStop s at) ≡ false → (stop : Stop) → r ≡ profile-read.Refused stop → readFrom vs s p left at ≡ refusedBy stop
+  unfolding seenProfile
+  turn-refused b stop g = read-refused vs s p left at low b (rw (← e, g))
+
+  module _ (name : Span) (rules : Place) (k : ℕ) (next : Place) (g : r ≡ profile-read.Good name rules k next) where
+    told : nextOf vs s p left at ≡ Read (record { profile = record { name = spanOf s name; rules = rulesFrom k vs s (rules .0) }; count = k; next = next .0 })
+    unfolding seenProfile
+    told = rw (← e, g)
+
+    pub turn-room : p .count < 32
+    turn-room = read-room vs s p left at low told
+
+    pub turn-left : k ≤ left
+    turn-left = profile-left (leb 32 (p .count)) left (namesOf s (p .table) (p .count)) vs s at told
+
+    pub turn-more : ends (tokenAt noStop s at) ≡ false → {new : Profiles} → OneMore p name rules k new → readFrom vs s p left at ≡ readFrom vs s new (left - k) (next .0)
+    turn-more b w = read-more vs s p left at low b w told
 
 -- ---- a profile stored
 
@@ -364,15 +391,15 @@ one-more p name rules k size h =
 -- ---- the whole text
 
 -- the variables that were read
-held-read : (s : List ℕ) (p : PreambleRead) (x : State) → seenPreamble s p ≡ Read x → held s (p .vars) ≡ x .variables
+held-read : (s t : List ℕ) (p : PreambleRead) (x : State) → seenPreamble s t p ≡ Read x → env s t (p .count) ≡ x .variables
 unfolding seenPreamble
-held-read s p x e = go (p .refused) refl e
+held-read s t p x e = go (p .refused) refl e
   where
-    go : (b : Bool) → p .refused ≡ b → seenPreamble s p ≡ Read x → held s (p .vars) ≡ x .variables
+    go : (b : Bool) → p .refused ≡ b → seenPreamble s t p ≡ Read x → env s t (p .count) ≡ x .variables
     go true q f = let h = (rw (q, seenPreamble) at f) in let z : _≡_ {A = ℕ} 0 1 = cc in absurd (omega arith)
     go false q f =
         let h = (rw (q, seenPreamble) at f) in
-        let j : _≡_ {A = State} (record { variables = held s (p .vars); next = p .next .0 }) x = cc in
+        let j : _≡_ {A = State} (record { variables = env s t (p .count); next = p .next .0 }) x = cc in
         ap (λ (y : State). y .variables) j
 
 -- the profiles under these variables, or the refusal, with its line
@@ -381,15 +408,15 @@ judgedBy vs s (Read ps) = Accepted vs ps
 judgedBy vs s (Refused n p) = Rejected n (lineOf s p)
 
 -- as the code tells it
-seen-judged : (s : List ℕ) (r : FileRead) (ps : ProfilesRead) → r .refused ≡ ps .refused → r .refusal .number ≡ ps .stop .number →
-    r .refusal .line ≡ lineOf s (ps .stop .place .0) → r .profiles ≡ ps .profiles →
-    seenFile s r ≡ judgedBy (held s (r .vars)) s (seenProfiles (held s (r .vars)) s ps)
+seen-judged : (s t : List ℕ) (r : FileRead) (ps : ProfilesRead) → r .refused ≡ ps .refused → r .refusal .number ≡ ps .stop .number →
+    r .refusal .line ≡ lineOf s (ps .stop .place .0) → r .profiles ≡ ps .profiles .table → r .count ≡ ps .profiles .count →
+    seenFile s t r ≡ judgedBy (env s t (r .vars)) s (seenProfiles (env s t (r .vars)) s ps)
 unfolding seenFile seenProfiles judgedBy
-seen-judged s r ps a b c d = go (ps .refused) refl
+seen-judged s t r ps a b c d e = go (ps .refused) refl
   where
-    go : (x : Bool) → ps .refused ≡ x → seenFile s r ≡ judgedBy (held s (r .vars)) s (seenProfiles (held s (r .vars)) s ps)
+    go : (x : Bool) → ps .refused ≡ x → seenFile s t r ≡ judgedBy (env s t (r .vars)) s (seenProfiles (env s t (r .vars)) s ps)
     go true q = rw (a, q, b, c, seenFile)
-    go false q = rw (a, q, d, seenFile)
+    go false q = rw (a, q, d, e, seenFile)
 
 -- as the definition tells it
 file-judged : (s : List ℕ) (vs : List Variable) → ((p : Preamble) → preambleAt 512 [] s 0 ≡ Read p → vs ≡ p .variables) →
@@ -408,13 +435,13 @@ file-judged s vs f = go (preambleAt 512 [] s 0) refl
     go (Read p) e = profiles p (f p e ∙ preamble-sets 512 [] s 0 p e) (profilesAt 32 512 [] (p .variables) s (p .next))
     go (Refused n q) e = refl
 
-pub file-read : (s : List ℕ) (p : PreambleRead) (ps : ProfilesRead) (r : FileRead) →
-    seenPreamble s p ≡ preambleOf (preambleAt 512 [] s 0) → seenProfiles (held s (p .vars)) s ps ≡ profilesOf s (seenPreamble s p) →
-    r .vars ≡ p .vars → r .refused ≡ ps .refused → r .refusal .number ≡ ps .stop .number →
-    r .refusal .line ≡ lineOf s (ps .stop .place .0) → r .profiles ≡ ps .profiles → seenFile s r ≡ judgedOf s (fileOf s)
+pub file-read : (s t : List ℕ) (p : PreambleRead) (ps : ProfilesRead) (r : FileRead) →
+    seenPreamble s t p ≡ preambleOf (preambleAt 512 [] s 0) → seenProfiles (env s t (p .count)) s ps ≡ profilesOf s (seenPreamble s t p) →
+    r .vars ≡ p .count → r .refused ≡ ps .refused → r .refusal .number ≡ ps .stop .number →
+    r .refusal .line ≡ lineOf s (ps .stop .place .0) → r .profiles ≡ ps .profiles .table → r .count ≡ ps .profiles .count → seenFile s t r ≡ judgedOf s (fileOf s)
 unfolding preambleOf
-file-read s p ps r e f v a b c d =
-    seen-judged s r ps a b c d
-    ∙ ap (λ (u : Variables). judgedBy (held s u) s (seenProfiles (held s u) s ps)) v
-    ∙ ap (judgedBy (held s (p .vars)) s) (f ∙ ap (profilesOf s) e)
-    ∙ file-judged s (held s (p .vars)) (λ q g. held-read s p (record { variables = q .variables; next = q .next }) (e ∙ ap preambleOf g))
+file-read s t p ps r e f v a b c d k =
+    seen-judged s t r ps a b c d k
+    ∙ ap (λ (n : ℕ). judgedBy (env s t n) s (seenProfiles (env s t n) s ps)) v
+    ∙ ap (judgedBy (env s t (p .count)) s) (f ∙ ap (profilesOf s) e)
+    ∙ file-judged s (env s t (p .count)) (λ q g. held-read s t p (record { variables = q .variables; next = q .next }) (e ∙ ap preambleOf g))

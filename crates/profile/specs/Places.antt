@@ -10,59 +10,27 @@ use lib.Dec.{ltb}
 use Rattle.scan.specs.Bytes.{begins, same, some, if_then_else_}
 use Rattle.text.specs.Reading.{Reading, Read, Refused, _>>=_, refuseIf, lineOf}
 use Rattle.text.specs.Places.{refusedBy}
-use Rattle.text.specs.Tokens.{Token, tokenAt, wanted}
+use Rattle.tokens.specs.Tokens.{Token, tokenAt, wanted}
 use Rattle.text.specs.declared.Place.{Place}
 use Rattle.pattern.specs.Expansions.{Variable}
-use Rattle.pattern.specs.Table.{bytesAt}
-use Rattle.rule.specs.Names.{nameForm}
+use Rattle.pattern.specs.Table.{bytesAt, env}
+use Rattle.names.specs.Names.{nameForm}
 use Rattle.rule.specs.Rules.{RulesRead, rulesAt}
-use Rattle.rule.specs.Places.{spanOf}
-use Rattle.rule.specs.declared.Span.{Span}
-use Rattle.rules.specs.Steps.{rulesFrom}
+use Rattle.text.specs.Places.{spanOf}
+use Rattle.text.specs.declared.Span.{Span}
+use Rattle.statement.specs.Steps.{rulesFrom}
 use Rattle.preamble.specs.Variables.{finalSets}
-use Rattle.preamble.specs.Places.{State, held}
-use Rattle.profile.specs.Profiles.{Profile, File, Head, brace, headAt, openAt, profilesAt}
+use Rattle.preamble.specs.Places.{State}
+use Rattle.heads.specs.Heads.{headAt}
+use Rattle.heads.specs.Places.{namesOf}
+use Rattle.profile.specs.Profiles.{Profile, File, profilesAt}
 use Rattle.profile.specs.declared.Profiles.{Profiles}
-use Rattle.profile.specs.declared.OpenRead.{OpenRead}
-use Rattle.profile.specs.declared.OpenRead.the-variants as brace-read
-use Rattle.profile.specs.declared.HeadRead.{HeadRead}
-use Rattle.profile.specs.declared.HeadRead.the-variants as head
 use Rattle.profile.specs.declared.ProfileRead.{ProfileRead}
 use Rattle.profile.specs.declared.ProfileRead.the-variants as profile-read
 use Rattle.profile.specs.declared.ProfilesRead.{ProfilesRead}
 use Rattle.profile.specs.declared.FileRead.{FileRead}
 
--- ---- heads
-
--- the name at a place, a token that ends at a blank or {; rooted says that it must begin with /
-unfoldable pub nameFrom : (rooted : Bool) → List ℕ → ℕ → Reading Token
-nameFrom rooted s at = do
-  t ← wanted s (tokenAt brace s at)
-  _ ← refuseIf (not ((not rooted || begins (code "/") (t .content)) && nameForm (t .quoted) (t .content))) 4 (t .start)
-  Read t
-
--- a head, by the token of its name
-unfoldable pub headFrom : (full : Bool) → (used : List (List ℕ)) → List ℕ → Token → Reading Head
-headFrom full used s t = do
-  _ ← refuseIf (full || ltb 255 (length (t .content))) 9 (t .start)
-  _ ← refuseIf (some (same (t .content)) used) 10 (t .start)
-  next ← openAt s (t .next)
-  Read (record { name = t .content; next = next })
-
-unfoldable pub seenOpen : OpenRead → Reading ℕ
-seenOpen (brace-read.Good n) = Read (n .0)
-seenOpen (brace-read.Refused stop) = refusedBy stop
-
-unfoldable pub seenHead : List ℕ → HeadRead → Reading Head
-seenHead s (head.Good name n) = Read (record { name = spanOf s name; next = n .0 })
-seenHead s (head.Refused stop) = refusedBy stop
-
 -- ---- the table
-
--- the names of the first n profiles, the last one in front
-unfoldable pub namesOf : (text t : List ℕ) → ℕ → List (List ℕ)
-namesOf text t zero = []
-namesOf text t (suc i) = bytesAt text t (4 * i) ∷ namesOf text t i
 
 -- profile i
 abbrev pub profileOf : List Variable → (text t : List ℕ) → ℕ → Profile
@@ -124,7 +92,8 @@ unfoldable pub judgedOf : List ℕ → Reading File → Judged
 judgedOf s (Read f) = Accepted (finalSets [] (f .preamble)) (f .profiles)
 judgedOf s (Refused n p) = Rejected n (lineOf s p)
 
-unfoldable pub seenFile : List ℕ → FileRead → Judged
-seenFile s r =
+-- as the code tells it, with the table of variables
+unfoldable pub seenFile : (text vars : List ℕ) → FileRead → Judged
+seenFile s t r =
     if r .refused then Rejected (r .refusal .number) (r .refusal .line)
-    else Accepted (held s (r .vars)) (profilesFrom (held s (r .vars)) s (r .profiles .table) (r .profiles .count) 0)
+    else Accepted (env s t (r .vars)) (profilesFrom (env s t (r .vars)) s (r .profiles) (r .count) 0)

@@ -2,23 +2,16 @@
 use Prim.Native.Nat.{ℕ, zero, suc, _+_}
 use mathlib.Core.List.{List, [], _∷_}
 use mathlib.Core.Bool.{Bool, true, false, not, _||_, _&&_}
-use lib.ListN.{length}
-use lib.Dec.{ltb}
 use Rattle.scan.specs.Bytes.{bytes, same, if_then_else_}
 use Rattle.perms.specs.declared.Perms.{Perms}
-use Rattle.perms.specs.declared.Kind.{Kind}
-use Rattle.perms.specs.declared.Kind.the-variants as kind
-use Rattle.perms.specs.declared.Transition.{Transition}
-use Rattle.perms.specs.declared.Transition.the-variants as transition
-use Rattle.perms.specs.declared.Word.{Word}
-use Rattle.perms.specs.declared.Word.the-variants as word
-use Rattle.perms.specs.Words.{wordOf}
+use Rattle.modes.specs.declared.Transition.{Transition}
 use Rattle.text.specs.Reading.{Reading, Read, Refused, _>>=_, refuseIf, judged}
-use Rattle.text.specs.Tokens.{Token, Next, Found, Stopped, End, comma, isWord, noStop, standing, standsAt, tokenAt, wanted}
-use Rattle.text.specs.Words.{firstWord, notTaken}
+use Rattle.tokens.specs.Tokens.{Token, Next, Found, Stopped, End, isWord, noStop, tokenAt, wanted}
+use Rattle.blanks.specs.Blanks.{standing, standsAt}
+use Rattle.keywords.specs.Keywords.{barred, firstWord}
 use Rattle.pattern.specs.Expansions.{Variable}
 use Rattle.pattern.specs.Faults.{patternFault}
-use Rattle.rule.specs.Names.{nameForm}
+use Rattle.rule_tail.specs.Tails.{permsAt, targetAt, commaAt}
 
 -- a rule: its qualifiers, pattern, permissions with the mode if any, and target, empty where there is none
 pub record Rule : Type 0 where
@@ -60,72 +53,16 @@ qualifiersAt s at =
     let o : Optional = optional (bytes "owner") s (d .next) in
     record { audit = a .found; deny = d .found; owner = o .found; some = a .found || l .found || d .found || o .found; next = o .next }
 
--- what a statement inside a profile may not start with: "likewise `profile` inside a profile"
-abbrev pub noRule : List ℕ → Bool
-noRule w = notTaken w || same w (bytes "profile")
-
 -- the pattern's token: "a statement is refused 5 when, after any qualifiers in the rule's order, its unquoted first word is one of
 -- these", "and a lone { after a qualifier"; "inside a profile any other word there is read as the pattern"
 unfoldable pub patternAt : List ℕ → Qualifiers → Reading Token
 patternAt s q = do
-  _ ← refuseIf (firstWord noRule s (q .next)) 5 (standing s (q .next))
+  _ ← refuseIf (firstWord (barred true) s (q .next)) 5 (standing s (q .next))
   t ← wanted s (tokenAt noStop s (q .next))
   _ ← refuseIf (q .some && isWord t (bytes "{")) 5 (t .start)
   Read t
 
--- ---- "PERMS [-> TARGET] ,"
-
--- "-> only with p and c modes"
-abbrev pub leadsToProfile : Kind → Bool
-leadsToProfile kind.Unconfined = false
-leadsToProfile kind.Profile = true
-leadsToProfile kind.Child = true
-leadsToProfile kind.Inherit = false
-
-abbrev pub takesTarget : Transition → Bool
-takesTarget transition.Absent = false
-takesTarget (transition.ByMode m) = leadsToProfile (m .kind)
-
-pub record Permissions : Type 0 where
-  pub perms : Perms
-  pub transition : Transition
-  pub next : ℕ
-
--- "Any other PERMS is 8."
-abbrev pub carriedBy : Token → Word → Reading Permissions
-carriedBy t (word.Carries p tr) = Read (record { perms = p; transition = tr; next = t .next })
-carriedBy t word.Bad = Refused 8 (t .start)
-
--- "PERMS end at a blank or comma. Missing or quoted PERMS is 4"
-unfoldable pub permsAt : (deny : Bool) → List ℕ → ℕ → Reading Permissions
-permsAt deny s at = do
-  t ← wanted s (tokenAt comma s at)
-  _ ← refuseIf (t .quoted || isWord t (bytes ",")) 4 (t .start)
-  carriedBy t (wordOf deny (t .content))
-
-pub record Target : Type 0 where
-  pub target : List ℕ
-  pub next : ℕ
-
--- the target where a -> stands, which "needs no blank after it"; "TARGET has the form of a name", "over 255 bytes are 9"
-unfoldable pub targetAt : Transition → List ℕ → ℕ → Reading Target
-targetAt tr s at =
-    elim (standsAt (bytes "->") s at) [
-      | false ↦ Read (record { target = []; next = at })
-      | true ↦ do
-        _ ← refuseIf (not (takesTarget tr)) 8 (standing s at)
-        t ← wanted s (tokenAt comma s (standing s at + 2))
-        _ ← refuseIf (not (nameForm (t .quoted) (t .content))) 4 (t .start)
-        _ ← refuseIf (ltb 255 (length (t .content))) 9 (t .start)
-        Read (record { target = t .content; next = t .next })
-    ]
-
--- the comma that ends a rule, and where reading goes on
-unfoldable pub commaAt : List ℕ → ℕ → Reading ℕ
-commaAt s at = do
-  t ← wanted s (tokenAt comma s at)
-  _ ← refuseIf (not (isWord t (bytes ","))) 4 (t .start)
-  Read (t .next)
+-- ---- a whole rule
 
 pub record RuleRead : Type 0 where
   pub rule : Rule

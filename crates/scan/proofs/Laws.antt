@@ -5,12 +5,27 @@ use mathlib.Core.List.{List, [], _∷_, _++_}
 use mathlib.Core.Bool.{Bool, true, false, _&&_, _||_, or-assoc, false≢true}
 use lib.ListN.{length, getD, take, drop, drop-of-length-le, length-drop, length-take}
 use lib.Seq.{drop-cons, take-nil, drop-drop, take-take}
-use lib.Dec.{eqb, eqb·zero-suc, eqb·suc-suc}
+use lib.Dec.{eqb, ltb, eqb·zero-suc, eqb·suc-suc}
 use native.Mathlib.Nat.{zero-add, suc-add, not-suc-le-zero, le-of-suc-le-suc}
 use native.Mathlib.Numerals.{add-one}
 use native.Mathlib.Omega.{arith}
-use borrow.Author.Tests.{eq-eqb, ne-eqb, eqb-true, eqb-false}
-use Rattle.scan.specs.Bytes.{same, holds, some, every, run, span}
+use borrow.Author.Tests.{ltb-true, ltb-false, eq-eqb, ne-eqb, eqb-true, eqb-false}
+use Rattle.scan.specs.Bytes.{begins, same, holds, some, every, run, span}
+
+-- a byte at a place, and none at the end
+module _ (b : ℕ) (s : List ℕ) (i : ℕ) where
+  pub begins-at : i < length s → begins b (drop i s) ≡ eqb (getD s i 0) b
+  begins-at h = rw (drop-cons s i 0)
+
+  pub begins-end : length s ≤ i → begins b (drop i s) ≡ false
+  begins-end h = rw (drop-of-length-le s h)
+
+pub begins-lt : (b : ℕ) (s : List ℕ) (i : ℕ) → begins b (drop i s) ≡ true → i < length s
+begins-lt b s i e = go (ltb i (length s)) refl
+  where
+    go : (x : Bool) → ltb i (length s) ≡ x → i < length s
+    go true k = ltb-true _ _ k
+    go false k = absurd (false≢true (sym (begins-end b s i (ltb-false _ _ k)) ∙ e))
 
 -- the same bytes from a place on: one byte more, a byte that differs, the end
 module _ (s t : List ℕ) (i : ℕ) where

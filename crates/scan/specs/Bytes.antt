@@ -4,7 +4,7 @@ use Prim.Native.Char.{code}
 use Prim.Native.String.{String, [], _∷_}
 use mathlib.Core.List.{List, [] as []ᴸ, _∷_ as _∷ᴸ_}
 use mathlib.Core.Bool.{Bool, true, false, _||_, _&&_}
-use lib.ListN.{take, drop}
+use lib.ListN.{length, take, drop}
 use lib.Dec.{eqb, leb}
 
 -- the bytes of an ASCII text
@@ -42,6 +42,10 @@ holds a s = some (eqb a) s
 abbrev pub begins : ℕ → List ℕ → Bool
 begins a []ᴸ = false
 begins a (b ∷ᴸ s) = eqb b a
+
+-- a list begins with these bytes
+abbrev pub startsWith : (word : List ℕ) → List ℕ → Bool
+startsWith w s = same (take (length w) s) w
 
 abbrev pub isEmpty : List ℕ → Bool
 isEmpty []ᴸ = true

@@ -1,6 +1,8 @@
 // Bytes compared and looked for.
 ghost use mathlib.Core.Path.{_≡_};
-ghost use Rattle.scan.specs.Bytes.{span, same, holds};
+ghost use Prim.Native.Nat.{min};
+ghost use lib.ListN.{drop};
+ghost use Rattle.scan.specs.Bytes.{begins, between, span, same, holds};
 
 // Whether two slices hold the same bytes.
 pub fn same_bytes(a: &[u8], b: &[u8]) -> bool
@@ -47,4 +49,28 @@ pub fn span(text: &[u8], a: usize, e: usize) -> &[u8]
         return &text[a..];
     }
     &text[0..0]
+}
+
+// The lower of two numbers.
+pub fn least(a: usize, b: usize) -> usize
+    ensures { λ r. ⌜ r ≡ min a b ⌝ }
+{
+    if a < b { a } else { b }
+}
+
+// Whether the byte c stands at a place.
+pub fn begins_at(s: &[u8], at: usize, c: u8) -> bool
+    ensures { λ r. ⌜ r ≡ begins c (drop at (now (s .entry))) ⌝ }
+{
+    if at < s.len() {
+        return s[at] == c;
+    }
+    false
+}
+
+// Whether a byte is one of those from low to high.
+pub fn is_between(low: u8, high: u8, b: u8) -> bool
+    ensures { λ r. ⌜ r ≡ between low high b ⌝ }
+{
+    (low <= b) & (b <= high)
 }

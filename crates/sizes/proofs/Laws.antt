@@ -15,7 +15,6 @@ use Rattle.pattern.specs.Codes.{decode}
 use Rattle.pattern.specs.Faults.{tooMany, rooted}
 use Rattle.pattern.proofs.Codes.{decode-byte, decode-place}
 use Rattle.sizes.specs.declared.Size.{Size}
-use Rattle.sizes.specs.declared.Sizes.{Sizes}
 use Rattle.sizes.specs.Sizes.{overSize, rootedSize, Known, isNil, nilOrSlash, sizeOf, limitOf, timesOf, plusOf, noSize, nilSize}
 use Rattle.sizes.proofs.Across.{length-across, nil-across, across-nil}
 use Rattle.sizes.proofs.Choices.{count-length}
@@ -218,13 +217,18 @@ pub size-nil : sizeOf ([] ∷ []) ≡ nilSize
 unfolding sizeOf longest some every
 size-nil = refl
 
-pub size-piece : (p : Piece) → sizeOf ((p ∷ []) ∷ []) ≡ record { count = 1; longest = 1; empty = false; slashed = isSlash p }
+-- a whole expansion, of one piece or more
+pub size-one : (p : Piece) (x : List Piece) →
+    sizeOf ((p ∷ x) ∷ []) ≡ record { count = 1; longest = min 1025 (suc (length x)); empty = false; slashed = isSlash p }
 unfolding sizeOf longest some every
-size-piece p = size-eq refl refl refl (last (isSlash p))
+size-one p x = size-eq refl (omega arith) refl (last (isSlash p))
   where
     last : (a : Bool) → a && true ≡ a
     last true = refl
     last false = refl
+
+pub size-piece : (p : Piece) → sizeOf ((p ∷ []) ∷ []) ≡ record { count = 1; longest = 1; empty = false; slashed = isSlash p }
+size-piece p = size-one p []
 
 -- ---- a first / by a piece's code
 
@@ -236,7 +240,7 @@ slash-class text p = ap isSlash (sym (decode-place text p))
 
 -- ---- the variables of a table
 
-pub known-fewer : {text vars : List ℕ} {n k : ℕ} {sizes : Sizes} → Known text vars n sizes → k ≤ min 32 n → Known text vars k sizes
+pub known-fewer : {text vars : List ℕ} {n k : ℕ} {sizes : List ℕ} → Known text vars n sizes → k ≤ min 32 n → Known text vars k sizes
 known-fewer p h = record { right = λ r l. p .right r (omega arith) }
 
 -- ---- what is refused, by the size

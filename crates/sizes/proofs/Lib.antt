@@ -2,3 +2,4 @@ pub mod Across
 pub mod Choices
 pub mod Laws
 pub mod Loops
+pub mod Table

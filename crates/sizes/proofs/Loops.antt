@@ -2,27 +2,27 @@
 use Prim.Native.Nat.{ℕ, zero, suc, _+_, _*_, _-_, _≤_, _<_, min, max}
 use Prim.Native.Char.{code}
 use mathlib.Core.Path.{_≡_, refl, sym, ap, ap₂, _∙_}
-use mathlib.Core.List.{List, [], _∷_, _++_, append-assoc, append-nil}
+use mathlib.Core.List.{List, [], _∷_, _++_, map, append-assoc, append-nil}
 use mathlib.Core.Bool.{Bool, true, false}
-use lib.ListN.{length, getD, drop, replicate, set}
-use lib.Seq.{getD-set-same, getD-set-other}
+use lib.ListN.{length, getD, take, drop, length-map, length-take, length-drop}
+use lib.Seq.{drop-drop, drop-cons}
 use lib.Dec.{eqb}
-use borrow.Author.Tests.{eqb-true, eqb-false}
-use native.Mathlib.Nat.{not-suc-le-zero}
 use native.Mathlib.Numerals.{add-one}
 use native.Mathlib.Omega.{arith}
-use Rattle.scan.specs.Bytes.{span}
+use Rattle.scan.specs.Bytes.{run, span}
 use Rattle.scan.proofs.Laws.{length-span, span-span}
-use Rattle.pattern.specs.Pieces.{Piece, Part, parts}
+use Rattle.pattern.specs.Pieces.{Piece, Byte, Part, parts}
 use Rattle.pattern.specs.Items.{Item, items, before, alternatives}
 use Rattle.pattern.specs.Places.{partAt, partEnd, itemAt, itemEnd}
 use Rattle.pattern.specs.Expansions.{across, listing, ofPart, ofParts, oneOf, ofName, ofItem, ofItems}
 use Rattle.pattern.specs.Table.{bytesAt, env, variables, valuesFrom, valuesOf, ofNumber}
+use Rattle.pattern.specs.Literals.{ordinary}
+use Rattle.pattern.proofs.Literals.{literalPart, literalItem, parts-run, items-run}
 use Rattle.pattern.proofs.Laws.{parts-at, parts-end, items-at, items-end, alternatives-more, alternatives-last}
 use Rattle.sizes.specs.declared.Size.{Size}
-use Rattle.sizes.specs.Sizes.{sizeOf, timesOf, plusOf, noSize, nilSize, past, oneChoices}
+use Rattle.sizes.specs.Sizes.{sizeOf, timesOf, plusOf, noSize, nilSize, oneChoices}
 use Rattle.sizes.proofs.Across.{across-assoc, across-one, one-across}
-use Rattle.sizes.proofs.Laws.{size-across, size-append, size-nil, size-none}
+use Rattle.sizes.proofs.Laws.{size-across, size-append, size-eq, size-nil, size-none, size-one}
 
 -- ---- neighbours: the whole is those passed, then the rest
 
@@ -31,8 +31,8 @@ pub record Passed (size : Size) (rest whole : List (List Piece)) : Type 0 where
   pub sized : size ≡ sizeOf front
   pub together : across front rest ≡ whole
 
-pub passed-none : {size : Size} → size ≡ nilSize → (whole : List (List Piece)) → Passed size whole whole
-passed-none e whole = record { front = [] ∷ []; sized = e ∙ sym size-nil; together = one-across whole }
+pub passed-first : {size : Size} {rest whole : List (List Piece)} (xs : List (List Piece)) → size ≡ sizeOf xs → whole ≡ across xs rest → Passed size rest whole
+passed-first xs e w = record { front = xs; sized = e; together = sym w }
 
 pub passed-more : {size one next : Size} {rest left whole : List (List Piece)} → Passed size rest whole → (xs : List (List Piece)) →
     one ≡ sizeOf xs → next ≡ timesOf size one → rest ≡ across xs left → Passed next left whole
@@ -42,6 +42,13 @@ passed-more {left = left} p xs o n r =
       sized = n ∙ ap₂ timesOf (p .sized) o ∙ size-across (p .front) xs;
       together = across-assoc (p .front) xs left ∙ ap (across (p .front)) (sym r) ∙ p .together;
     }
+
+-- two neighbours more
+pub passed-two : {size one two both next : Size} {rest mid left whole : List (List Piece)} → Passed size rest whole → (xs ys : List (List Piece)) →
+    one ≡ sizeOf xs → two ≡ sizeOf ys → both ≡ timesOf one two → next ≡ timesOf size both →
+    rest ≡ across xs mid → mid ≡ across ys left → Passed next left whole
+passed-two {left = left} p xs ys o t b n r m =
+    passed-more p (across xs ys) (b ∙ ap₂ timesOf o t ∙ size-across xs ys) n (r ∙ ap (across xs) m ∙ sym (across-assoc xs ys left))
 
 pub passed-all : {size : Size} {rest whole : List (List Piece)} → Passed size rest whole → rest ≡ [] ∷ [] → size ≡ sizeOf whole
 passed-all p e = p .sized ∙ ap sizeOf (sym (across-one (p .front)) ∙ ap (across (p .front)) (sym e) ∙ p .together)
@@ -88,6 +95,54 @@ module _ (f : List ℕ → List (List Piece)) (s : List ℕ) (i : ℕ) where
   pub items-none : length s ≤ i → ofItems listing f (items 0 (drop i s)) ≡ [] ∷ []
   unfolding ofItems
   items-none h = rw (items-end s i h)
+
+-- ---- literals: one expansion
+
+module _ (f : List ℕ → List (List Piece)) where
+  one-more : (b : ℕ) (x : List Piece) (ts : List (List Piece)) →
+      across ((Byte b ∷ []) ∷ []) (across (x ∷ []) ts) ≡ across ((Byte b ∷ x) ∷ []) ts
+  unfolding across
+  one-more b x ts = sym (across-assoc ((Byte b ∷ []) ∷ []) (x ∷ []) ts)
+
+  literal-parts : (l : List ℕ) (r : List Part) → ofParts listing f (map literalPart l ++ r) ≡ across (map Byte l ∷ []) (ofParts listing f r)
+  unfolding ofParts
+  literal-parts [] r = sym (one-across (ofParts listing f r))
+  literal-parts (b ∷ l) r = ap (across ((Byte b ∷ []) ∷ [])) (literal-parts l r) ∙ one-more b (map Byte l) (ofParts listing f r)
+
+  literal-items : (l : List ℕ) (r : List Item) → ofItems listing f (map literalItem l ++ r) ≡ across (map Byte l ∷ []) (ofItems listing f r)
+  unfolding ofItems
+  literal-items [] r = sym (one-across (ofItems listing f r))
+  literal-items (b ∷ l) r = ap (across ((Byte b ∷ []) ∷ [])) (literal-items l r) ∙ one-more b (map Byte l) (ofItems listing f r)
+
+  -- those from a place on
+  module _ (s : List ℕ) (i next : ℕ) (n : next ≡ i + run ordinary (drop i s)) where
+    taken : take (run ordinary (drop i s)) (drop i s) ≡ span s i next
+    taken = ap (λ (k : ℕ). take k (drop i s)) (let e : run ordinary (drop i s) ≡ next - i = omega arith in e)
+
+    left : drop (run ordinary (drop i s)) (drop i s) ≡ drop next s
+    left = drop-drop (run ordinary (drop i s)) i s ∙ ap (λ (k : ℕ). drop k s) (sym n)
+
+    pub parts-literals : ofParts listing f (parts 0 (drop i s)) ≡ across (map Byte (span s i next) ∷ []) (ofParts listing f (parts 0 (drop next s)))
+    parts-literals =
+        ap (ofParts listing f) (parts-run (drop i s)) ∙ literal-parts (take (run ordinary (drop i s)) (drop i s)) _
+        ∙ ap₂ (λ (x l : List ℕ). across (map Byte x ∷ []) (ofParts listing f (parts 0 l))) taken left
+
+    pub items-literals : ofItems listing f (items 0 (drop i s)) ≡ across (map Byte (span s i next) ∷ []) (ofItems listing f (items 0 (drop next s)))
+    items-literals =
+        ap (ofItems listing f) (items-run (drop i s)) ∙ literal-items (take (run ordinary (drop i s)) (drop i s)) _
+        ∙ ap₂ (λ (x l : List ℕ). across (map Byte x ∷ []) (ofItems listing f (items 0 l))) taken left
+
+pub literals-none : (s : List ℕ) (at end : ℕ) → end ≤ at → sizeOf (map Byte (span s at end) ∷ []) ≡ nilSize
+literals-none s at end h = let e : end - at ≡ 0 = omega arith in rw e size-nil
+
+pub literals-some : (s : List ℕ) (at end : ℕ) → at < end → end ≤ length s →
+    sizeOf (map Byte (span s at end) ∷ []) ≡ record { count = 1; longest = min 1025 (end - at); empty = false; slashed = eqb (getD s at 0) 47 }
+literals-some s at end h k =
+    let e : end - at ≡ suc (end - at - 1) = omega arith in
+    let m : length (take (end - at - 1) (drop (suc at) s)) ≡ end - at - 1 = omega (arith, length-take (end - at - 1) (drop (suc at) s), length-drop (suc at) s) in
+    ap (λ (l : List ℕ). sizeOf (map Byte l ∷ [])) (ap₂ take e (drop-cons s at 0 (omega arith)))
+    ∙ size-one (Byte (getD s at 0)) (map Byte (take (end - at - 1) (drop (suc at) s)))
+    ∙ size-eq refl (rw length-map (omega arith)) refl refl
 
 -- ---- the values of a variable
 
@@ -139,17 +194,3 @@ module _ (f : List ℕ → List (List Piece)) (text : List ℕ) (a e : ℕ) (s :
   unfolding oneOf
   alternative-last h =
       ap (oneOf listing f) (alternatives-last s i j at h) ∙ ap (λ (l : List ℕ). ofParts listing f (parts 0 l) ++ []) same-span
-
--- ---- the table of sizes
-
-pub sized-zero : (text vars : List ℕ) (r : ℕ) → r ≤ 0 → getD (replicate 33 noSize) r past ≡ sizeOf (ofNumber listing text vars r)
-sized-zero text vars zero h = sym size-none
-sized-zero text vars (suc r) h = absurd (not-suc-le-zero h)
-
-pub sized-more : (each : List Size) (g : ℕ → Size) (w : ℕ) (a : Size) → w + 1 < length each →
-    ((r : ℕ) → r ≤ w → getD each r past ≡ g r) → a ≡ g (w + 1) → (r : ℕ) → r ≤ w + 1 → getD (set each (w + 1) a) r past ≡ g r
-sized-more each g w a h f e r l = go (eqb r (w + 1)) refl
-  where
-    go : (x : Bool) → eqb r (w + 1) ≡ x → getD (set each (w + 1) a) r past ≡ g r
-    go true p = let q : r ≡ w + 1 = eqb-true r (w + 1) p in rw q (getD-set-same each (w + 1) a past h ∙ e)
-    go false p = getD-set-other each (w + 1) r a past (eqb-false r (w + 1) p) ∙ f r (let q : r ≡ w + 1 → ⊥ = eqb-false r (w + 1) p in omega arith)

@@ -3,7 +3,7 @@ use Prim.Native.Nat.{ℕ, _+_, _*_, _≤_, min, max}
 use mathlib.Core.Path.{_≡_}
 use mathlib.Core.List.{List, [], _∷_}
 use mathlib.Core.Bool.{Bool, true, false, not, _||_, _&&_}
-use lib.ListN.{length, getD}
+use lib.ListN.{length, getD, set}
 use lib.Dec.{eqb, ltb}
 use Rattle.scan.specs.Bytes.{every, some, if_then_else_}
 use Rattle.pattern.specs.Pieces.{Piece, Part, parts}
@@ -11,7 +11,6 @@ use Rattle.pattern.specs.Items.{Item}
 use Rattle.pattern.specs.Expansions.{Variable, listing, ofPart, ofParts, oneOf, ofName, ofItem, longest, isSlash}
 use Rattle.pattern.specs.Table.{ofNumber}
 use Rattle.sizes.specs.declared.Size.{Size}
-use Rattle.sizes.specs.declared.Sizes.{Sizes}
 
 -- ---- the expansions of a part, a value or alternative, several of these, an item
 
@@ -89,10 +88,24 @@ rootedSize z = z .slashed && not (z .empty)
 
 -- ---- the sizes of the variables of a table
 
--- what stands past the end of a list of sizes
-abbrev pub past : Size
-past = record { count = 0; longest = 0; empty = false; slashed = false }
+-- row r: count, longest, and whether empty and slashed as 0 or 1
+unfoldable pub sizeAt : List ℕ → ℕ → Size
+sizeAt table r =
+    record {
+      count = getD table (4 * r) 0;
+      longest = getD table (4 * r + 1) 0;
+      empty = eqb (getD table (4 * r + 2) 0) 1;
+      slashed = eqb (getD table (4 * r + 3) 0) 1;
+    }
 
--- the sizes are right for the first n variables
-pub record Known (text vars : List ℕ) (n : ℕ) (sizes : Sizes) : Type 0 where
-  pub right : (r : ℕ) → r ≤ min 32 n → getD (sizes .each) r past ≡ sizeOf (ofNumber listing text vars r)
+abbrev pub bit : Bool → ℕ
+bit false = 0
+bit true = 1
+
+-- a size put into row r
+unfoldable pub withSize : List ℕ → ℕ → Size → List ℕ
+withSize table r z = set (set (set (set table (4 * r) (z .count)) (4 * r + 1) (z .longest)) (4 * r + 2) (bit (z .empty))) (4 * r + 3) (bit (z .slashed))
+
+-- the sizes are right for the first n variables; row 0 is that of no such variable, row w + 1 that of variable w
+pub record Known (text vars : List ℕ) (n : ℕ) (table : List ℕ) : Type 0 where
+  pub right : (r : ℕ) → r ≤ min 32 n → sizeAt table r ≡ sizeOf (ofNumber listing text vars r)

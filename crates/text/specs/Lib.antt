@@ -1,4 +1,2 @@
 pub mod Reading
-pub mod Tokens
-pub mod Words
 pub mod Places

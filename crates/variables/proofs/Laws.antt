@@ -3,18 +3,21 @@ use Prim.Native.Nat.{ℕ, zero, suc, _+_, _*_, _-_, _≤_, _<_, min}
 use mathlib.Core.Path.{_≡_, refl, sym, ap, ap₂, _∙_}
 use mathlib.Core.List.{List, [], _∷_, _++_, append-nil, append-assoc}
 use lib.ListN.{length, getD, set, length-append}
+use mathlib.Core.Bool.{Bool, true, false, _&&_}
+use lib.Dec.{ltb}
 use lib.Seq.{getD-set-same, getD-set-other, lt-length-set}
+use borrow.Author.Tests.{lt-ltb, le-ltb}
 use native.Mathlib.Omega.{arith}
 use Rattle.scan.specs.Bytes.{span}
 use Rattle.pattern.specs.Expansions.{Variable}
 use Rattle.pattern.specs.Table.{bytesAt, valuesFrom, valuesOf, variables}
-use Rattle.variables.specs.Added.{heldBy, room, Named, Added}
+use Rattle.variables.specs.Added.{heldBy, room, threeSet, nameSet, valueAt, valueSet, Named, Added}
 
 -- ---- three cells stored
 
 module _ (t : List ℕ) (i j k x y z : ℕ) where
   abbrev stored : List ℕ
-  stored = set (set (set t i x) j y) k z
+  stored = threeSet t i j k x y z
 
   kept : (m : ℕ) → (m ≡ i → ⊥) → (m ≡ j → ⊥) → (m ≡ k → ⊥) → getD stored m 0 ≡ getD t m 0
   kept m p q r = getD-set-other (set (set t i x) j y) k m z 0 r ∙ getD-set-other (set t i x) j m y 0 q ∙ getD-set-other t i m x 0 p
@@ -76,6 +79,15 @@ length-values text t w = values-length text t (heldBy t w) (16 * w)
 
 -- ---- a name
 
+module _ (t : List ℕ) (w start end : ℕ) where
+  pub name-room : w < 32 → nameSet t w start end ≡ threeSet t (2 * w) (2 * w + 1) (64 + w) start end 0
+  unfolding nameSet
+  name-room h = rw (lt-ltb w 32 h, nameSet)
+
+  pub name-full : 32 ≤ w → nameSet t w start end ≡ t
+  unfolding nameSet
+  name-full h = rw (le-ltb w 32 h, nameSet)
+
 module _ (t : List ℕ) (w start end : ℕ) (size : length t ≡ 1120) (h : w < 32) where
   abbrev opened : List ℕ
   opened = stored t (2 * w) (2 * w + 1) (64 + w) start end 0
@@ -83,7 +95,7 @@ module _ (t : List ℕ) (w start end : ℕ) (size : length t ≡ 1120) (h : w < 
   cell : (m : ℕ) → (m ≡ 2 * w → ⊥) → (m ≡ 2 * w + 1 → ⊥) → (m ≡ 64 + w → ⊥) → getD opened m 0 ≡ getD t m 0
   cell = kept t (2 * w) (2 * w + 1) (64 + w) start end 0
 
-  pub named-cells : (text : List ℕ) → Named text t opened w start end
+  named-cells : (text : List ℕ) → Named text t opened w start end
   unfolding variables valuesFrom
   named-cells text =
       let called : bytesAt text opened (2 * w) ≡ span text start end =
@@ -109,7 +121,26 @@ module _ (t : List ℕ) (w start end : ℕ) (size : length t ≡ 1120) (h : w < 
         none = none;
       }
 
+  pub name-set : (text : List ℕ) → Named text t (nameSet t w start end) w start end
+  name-set text = rw (name-room t w start end h) (named-cells text)
+
 -- ---- a value
+
+abbrev next : List ℕ → ℕ → ℕ
+next t w = valueAt w (getD t (64 + w) 0)
+
+module _ (t : List ℕ) (w a e : ℕ) where
+  pub value-room : w < 32 → getD t (64 + w) 0 < 16 → valueSet t w a e ≡ threeSet t (next t w) (next t w + 1) (64 + w) a e (getD t (64 + w) 0 + 1)
+  unfolding valueSet
+  value-room h f = rw (lt-ltb w 32 h, lt-ltb (getD t (64 + w) 0) 16 f, valueSet)
+
+  pub value-many : w < 32 → 16 ≤ getD t (64 + w) 0 → valueSet t w a e ≡ t
+  unfolding valueSet
+  value-many h f = rw (lt-ltb w 32 h, le-ltb (getD t (64 + w) 0) 16 f, valueSet)
+
+  pub value-full : 32 ≤ w → valueSet t w a e ≡ t
+  unfolding valueSet
+  value-full h = rw (le-ltb w 32 h, valueSet)
 
 module _ (t : List ℕ) (w a e : ℕ) (size : length t ≡ 1120) (h : w < 32) (free : getD t (64 + w) 0 < 16) where
   abbrev k : ℕ
@@ -141,7 +172,7 @@ module _ (t : List ℕ) (w a e : ℕ) (size : length t ≡ 1120) (h : w < 32) (f
       ∙ ap₂ (λ (xs : List (List ℕ)) (x : List ℕ). xs ++ (x ∷ [])) before b
       ∙ ap (λ (n : ℕ). valuesFrom text t n (16 * w) ++ (span text a e ∷ [])) (sym d)
 
-  pub added-cells : (text : List ℕ) → Added text t grown w (span text a e ∷ [])
+  added-cells : (text : List ℕ) → Added text t grown w (span text a e ∷ [])
   added-cells text =
       record {
         names = λ v p. bytes-cong text grown t (2 * v)
@@ -154,6 +185,9 @@ module _ (t : List ℕ) (w a e : ℕ) (size : length t ≡ 1120) (h : w < 32) (f
             (cell2 (96 + 2 * j + 1) (λ q. omega arith) (λ q. d (omega arith)) (λ q. omega arith));
         more = value-more text;
       }
+
+  pub value-set : (text : List ℕ) → Added text t (valueSet t w a e) w (span text a e ∷ [])
+  value-set text = rw (value-room t w a e h free) (added-cells text)
 
 -- ---- steps in a row
 

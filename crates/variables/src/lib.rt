@@ -1,32 +1,19 @@
-// The variables that are set, as a table by value.
-use sizes::least;
+// The table of the variables that are set, which is lent: variable w has the places of its name at 2 * w, the number of
+// its values at 64 + w, and the places of value k at 96 + 2 * (16 * w + k). At most 32 are set, with 16 values each.
+use scan::least;
+use scan::same_bytes;
+use scan::span;
 ghost use mathlib.Core.Path.{_≡_};
-ghost use mathlib.Core.List.{List, [], _∷_};
-ghost use Prim.Native.Nat.{ℕ, _+_, _<_, min};
-ghost use lib.ListN.{getD};
-ghost use Rattle.scan.specs.Bytes.{span};
-ghost use Rattle.variables.specs.Added.{heldBy, Named, Added};
-
-// Variable w has the places of its name at 2 * w of the table, the number of its values at 64 + w, and the places of
-// value k at 96 + 2 * (16 * w + k). At most 32 are set.
-pub struct Variables {
-    pub table: [usize; 1120],
-    pub count: usize,
-}
-
-// No variable is set.
-pub fn no_variables() -> Variables
-    ensures { λ r. ⌜ r .count ≡ 0 ⌝ }
-{
-    Variables {
-        table: [0; 1120],
-        count: 0,
-    }
-}
+ghost use Prim.Native.Nat.{min};
+ghost use lib.Dec.{ltb};
+ghost use lib.ListN.{length};
+ghost use Rattle.scan.specs.Bytes.{if_then_else_, span};
+ghost use Rattle.pattern.specs.Table.{numberOf};
+ghost use Rattle.variables.specs.Added.{heldBy, nameSet, valueSet};
 
 // How many values variable w has.
 pub fn value_count(vars: &[usize; 1120], w: usize) -> usize
-    ensures { λ r. ⌜ (w < 32 → r ≡ heldBy (now (vars .entry)) w) ⌝ }
+    ensures { λ r. ⌜ r ≡ (if ltb w 32 then heldBy (now (vars .entry)) w else 0) ⌝ }
 {
     if w < 32 {
         return least(16, vars[64 + w]);
@@ -34,36 +21,47 @@ pub fn value_count(vars: &[usize; 1120], w: usize) -> usize
     0
 }
 
-// One variable more, whose name stands from start to end in the text, without values.
-pub fn with_name(vars: Variables, start: usize, end: usize) -> Variables
-    ensures { λ r. ⌜ (vars .count < 32 → (r .count ≡ vars .count + 1) × ((text : List ℕ) → Named text (vars .table) (r .table) (vars .count) start end)) ⌝ }
+// Variable w is named by what stands from start to before end in the text, and has no values.
+pub fn with_name(vars: &mut [usize; 1120], w: usize, start: usize, end: usize)
+    ensures { λ _. ⌜ (length (now (vars .entry)) ≡ 1120) × (now (vars .exit) ≡ nameSet (now (vars .entry)) w start end) ⌝ }
 {
-    let mut u = vars;
-    let w = u.count;
+    // A slice, whose length the proof knows.
+    let cells = &mut vars[..];
     if w < 32 {
-        u.table[2 * w] = start;
-        u.table[2 * w + 1] = end;
-        u.table[64 + w] = 0;
-        u.count = w + 1;
-        return u;
+        cells[2 * w] = start;
+        cells[2 * w + 1] = end;
+        cells[64 + w] = 0;
     }
-    u
 }
 
 // One value more of variable w, from a to before e in the text.
-pub fn with_value(vars: Variables, w: usize, a: usize, e: usize) -> Variables
-    ensures { λ r. ⌜ (r .count ≡ vars .count) × (w < 32 → getD (vars .table) (64 + w) 0 < 16 → (text : List ℕ) → Added text (vars .table) (r .table) w (span text a e ∷ [])) ⌝ }
+pub fn with_value(vars: &mut [usize; 1120], w: usize, a: usize, e: usize)
+    ensures { λ _. ⌜ (length (now (vars .entry)) ≡ 1120) × (now (vars .exit) ≡ valueSet (now (vars .entry)) w a e) ⌝ }
 {
-    let mut u = vars;
+    let cells = &mut vars[..];
     if w < 32 {
-        let k = u.table[64 + w];
+        let k = cells[64 + w];
         if k < 16 {
             let i = 96 + 2 * (16 * w + k);
-            u.table[i] = a;
-            u.table[i + 1] = e;
-            u.table[64 + w] = k + 1;
-            return u;
+            cells[i] = a;
+            cells[i + 1] = e;
+            cells[64 + w] = k + 1;
         }
     }
-    u
+}
+
+// The number of the variable whose name stands from start to end in the text: 1 more than its place in the table, 0 where it is not set.
+pub fn named(text: &[u8], vars: &[usize; 1120], n: usize, start: usize, end: usize) -> usize
+    ensures { λ r. ⌜ r ≡ numberOf (now (text .entry)) (now (vars .entry)) (min 32 n) (span (now (text .entry)) start end) ⌝ }
+{
+    let name = span(text, start, end);
+    let mut i = least(32, n);
+    while 0 < i {
+        let w = 2 * (i - 1);
+        if same_bytes(span(text, vars[w], vars[w + 1]), name) {
+            return i;
+        }
+        i -= 1;
+    }
+    0
 }

@@ -15,11 +15,8 @@ sizes-of-requires c κs = search needs
 loop-holds : tie.Need-loop-holds Inv-loop μ-loop
 loop-holds c = search needs
 
-match-pattern-requires : tie.Need-match-pattern-requires Inv-loop μ-loop
-match-pattern-requires c κs = search needs
-
-one-requires : tie.Need-one-requires Inv-loop μ-loop
-one-requires c κs = search needs
+hit-requires : tie.Need-hit-requires Inv-loop μ-loop
+hit-requires c κs = search needs
 
 add-hits : tie.Need-add-hits Inv-loop μ-loop
 add-hits c = search needs
@@ -44,8 +41,7 @@ matches-spec =
     μ-loop
     sizes-of-requires
     loop-holds
-    match-pattern-requires
-    one-requires
+    hit-requires
     add-hits
     add-i
     loop-less

@@ -1,9 +1,9 @@
 use denote.Ref.{now}
-use mathlib.Core.Path.{sym, ap, _∙_}
-use Rattle.preamble.specs.Places.{held}
-use Rattle.rules.specs.Steps.{rulesFrom}
+use mathlib.Core.Path.{sym, _∙_}
+use Rattle.pattern.specs.Table.{env}
+use Rattle.statement.specs.Steps.{rulesFrom}
 use Rattle.findings.specs.Findings.{Request, findings}
-use Rattle.decide.proofs.Laws.{answer-found, answerOfFound, move-short}
+use Rattle.decide.proofs.Laws.{answer-by, move-short}
 use borrow.Author.Needs.{needs}
 use Rattle.decide.proofs.answer_in.Statement.{statement}
 use Rattle.decide.proofs.answer_in.Tie as tie
@@ -22,11 +22,12 @@ refused-requires c κs = search needs
 
 returns : tie.Need-returns
 returns c =
-    let a = c .before .before .before .before .before .before .before .before .before .before .before .before .args in
-    let s = now (a .text) in
-    let vs = held s (a .f .vars) in
-    let q : Request = record { path = now (a .path); asked = a .asked .0; owner = a .owner } in
-    c .refused .ensures ∙ sym (answer-found vs q s (a .f .profiles .table) (a .f .profiles .count) 0 (now (a .name)) ∙ ap (answerOfFound vs q s) (sym (c .before .before .before .find .ensures) ∙ c .before .enum-told .given .1))
+    let c-find = c .before .before .before .find in
+    let c-args = c .before .before .before .before .before .before .before .args in
+    let s = now (c-args .text) in
+    let vs = env s (now (c-args .vars)) (c-args .n) in
+    let q : Request = record { path = now (c-args .path); asked = c-args .asked .0; owner = c-args .owner } in
+    c .refused .ensures ∙ sym (answer-by vs q s (now (c-args .profiles)) (c-args .count) (now (c-args .name)) (c-find .result) (c-find .ensures) _ (c .before .enum-told .given .1))
 
 findings-of-requires : tie.Need-findings-of-requires
 findings-of-requires c κs = search needs
@@ -36,15 +37,17 @@ finish-requires c κs = search needs
 
 returns-2 : tie.Need-returns-2
 returns-2 c =
-    let a = c .before .before .before .before .before .before .before .before .before .before .before .before .before .before .before .before .args in
-    let s = now (a .text) in
-    let vs = held s (a .f .vars) in
-    let q : Request = record { path = now (a .path); asked = a .asked .0; owner = a .owner } in
-    let r = c .before .before .before .before .before .r .given in
-    let pre = c .before .before .before .before .before .before .before .before .before .before .before .before .before .before .before .before .pre in
-    let weighs = c .before .findings-of .ensures (pre .1 .0) (pre .1 .1) (a .asked .0) in
-    c .finish .ensures (findings vs q (rulesFrom (r .0 .1 .0) vs s (r .0 .0 .0))) weighs (move-short vs q s (r .0 .1 .0) (r .0 .0 .0))
-    ∙ sym (answer-found vs q s (a .f .profiles .table) (a .f .profiles .count) 0 (now (a .name)) ∙ ap (answerOfFound vs q s) (sym (c .before .before .before .before .before .before .before .find .ensures) ∙ r .1))
+    let c-r = c .before .before .before .r in
+    let c-find = c .before .before .before .before .before .find in
+    let c-args = c .before .before .before .before .before .before .before .before .before .args in
+    let c-pre = c .before .before .before .before .before .before .before .before .before .pre in
+    let s = now (c-args .text) in
+    let vs = env s (now (c-args .vars)) (c-args .n) in
+    let q : Request = record { path = now (c-args .path); asked = c-args .asked .0; owner = c-args .owner } in
+    let k = c-r .given .0 .1 .0 in
+    let at = c-r .given .0 .0 .0 in
+    c .finish .ensures (findings vs q (rulesFrom k vs s at)) (c .before .findings-of .ensures (c-pre .1 .0) (c-pre .1 .1) (c-args .asked .0)) (move-short vs q s k at)
+    ∙ sym (answer-by vs q s (now (c-args .profiles)) (c-args .count) (now (c-args .name)) (c-find .result) (c-find .ensures) _ (c-r .given .1))
 
 pub answer-in-spec : {M : Type 1} → statement M
 answer-in-spec =

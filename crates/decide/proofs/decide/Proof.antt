@@ -1,6 +1,6 @@
 use denote.Ref.{now}
 use mathlib.Core.Path.{sym, _∙_}
-use Rattle.decide.proofs.Laws.{answer-asked, answer-long, answer-path, answer-read, good-fits, seen-accepted, seen-rejected}
+use Rattle.decide.proofs.Laws.{answer-accepted, answer-asked, answer-long, answer-path, answer-rejected, good-fits}
 use borrow.Author.Needs.{needs}
 use Rattle.decide.proofs.decide.Statement.{statement}
 use Rattle.decide.proofs.decide.Tie as tie
@@ -10,8 +10,8 @@ refused-requires c κs = search needs
 
 returns : tie.Need-returns
 returns c =
-    let a = c .before .before .before .before .before .args in
-    c .refused .ensures ∙ sym (answer-long (now (a .text)) (now (a .name)) (now (a .path)) (a .asked .0) (a .owner) (c .before .if1 .taken))
+    let c-args = c .before .before .before .before .before .args in
+    c .refused .ensures ∙ sym (answer-long (now (c-args .text)) (now (c-args .name)) (now (c-args .path)) (c-args .asked .0) (c-args .owner) (c .before .if1 .taken))
 
 is-bad-path-requires : tie.Need-is-bad-path-requires
 is-bad-path-requires c κs = search needs
@@ -21,8 +21,10 @@ refused-requires-2 c κs = search needs
 
 returns-2 : tie.Need-returns-2
 returns-2 c =
-    let a = c .before .before .before .before .before .before .before .args in
-    c .refused2 .ensures ∙ sym (answer-path (now (a .text)) (now (a .name)) (now (a .path)) (a .asked .0) (a .owner) (c .before .before .before .if1 .left) (sym (c .before .before .is-bad-path .ensures) ∙ c .before .if2 .taken))
+    let c-is-bad-path = c .before .before .is-bad-path in
+    let c-if1 = c .before .before .before .if1 in
+    let c-args = c .before .before .before .before .before .before .before .args in
+    c .refused2 .ensures ∙ sym (answer-path (now (c-args .text)) (now (c-args .name)) (now (c-args .path)) (c-args .asked .0) (c-args .owner) (c-if1 .left) (sym (c-is-bad-path .ensures) ∙ c .before .if2 .taken))
 
 is-bad-asked-requires : tie.Need-is-bad-asked-requires
 is-bad-asked-requires c κs = search needs
@@ -32,8 +34,12 @@ refused-requires-3 c κs = search needs
 
 returns-3 : tie.Need-returns-3
 returns-3 c =
-    let a = c .before .before .before .before .before .before .before .before .before .args in
-    c .refused3 .ensures ∙ sym (answer-asked (now (a .text)) (now (a .name)) (now (a .path)) (a .asked .0) (a .owner) (c .before .before .before .before .before .if1 .left) (sym (c .before .before .before .before .is-bad-path .ensures) ∙ c .before .before .before .if2 .left) (sym (c .before .before .is-bad-asked .ensures) ∙ c .before .if3 .taken))
+    let c-is-bad-asked = c .before .before .is-bad-asked in
+    let c-if2 = c .before .before .before .if2 in
+    let c-is-bad-path = c .before .before .before .before .is-bad-path in
+    let c-if1 = c .before .before .before .before .before .if1 in
+    let c-args = c .before .before .before .before .before .before .before .before .before .args in
+    c .refused3 .ensures ∙ sym (answer-asked (now (c-args .text)) (now (c-args .name)) (now (c-args .path)) (c-args .asked .0) (c-args .owner) (c-if1 .left) (sym (c-is-bad-path .ensures) ∙ c-if2 .left) (sym (c-is-bad-asked .ensures) ∙ c .before .if3 .taken))
 
 read-requires : tie.Need-read-requires
 read-requires c κs = search needs
@@ -43,21 +49,35 @@ refused-requires-4 c κs = search needs
 
 returns-4 : tie.Need-returns-4
 returns-4 c =
-    let a = c .before .before .before .before .before .before .before .before .before .before .before .before .args in
-    let r = c .before .before .before .read in
-    c .refused4 .ensures ∙ sym (answer-read (now (a .text)) (now (a .name)) (now (a .path)) (a .asked .0) (a .owner) (c .before .before .before .before .before .before .before .before .if1 .left) (sym (c .before .before .before .before .before .before .before .is-bad-path .ensures) ∙ c .before .before .before .before .before .before .if2 .left) (sym (c .before .before .before .before .before .is-bad-asked .ensures) ∙ c .before .before .before .before .if3 .left) (sym (seen-rejected (now (a .text)) (r .result) (c .before .if4 .taken)) ∙ r .ensures .0))
+    let c-read = c .before .before .before .read in
+    let c-if3 = c .before .before .before .before .before .if3 in
+    let c-is-bad-asked = c .before .before .before .before .before .before .is-bad-asked in
+    let c-if2 = c .before .before .before .before .before .before .before .if2 in
+    let c-is-bad-path = c .before .before .before .before .before .before .before .before .is-bad-path in
+    let c-if1 = c .before .before .before .before .before .before .before .before .before .if1 in
+    let c-args = c .before .before .before .before .before .before .before .before .before .before .before .before .before .args in
+    c .refused4 .ensures ∙ sym (answer-rejected (now (c-args .text)) (now (c-args .name)) (now (c-args .path)) (c-args .asked .0) (c-args .owner) (c-if1 .left) (sym (c-is-bad-path .ensures) ∙ c-if2 .left) (sym (c-is-bad-asked .ensures) ∙ c-if3 .left) _ (c-read .result) (c-read .ensures .0) (c .before .if4 .taken))
 
 answer-in-requires : tie.Need-answer-in-requires
 answer-in-requires c κs =
-    let a = c .before .before .before .before .before .before .before .before .before .before .before .args in
-    let r = c .before .before .read in
-    (r .ensures .1 .1, (r .ensures .1 .0, record { short = c .before .before .before .before .before .before .before .if1 .left; fits = good-fits (now (a .path)) (sym (c .before .before .before .before .before .before .is-bad-path .ensures) ∙ c .before .before .before .before .before .if2 .left) }))
+    let c-read = c .before .before .before .before .before .before .read in
+    let c-if2 = c .before .before .before .before .before .before .before .before .before .before .if2 in
+    let c-is-bad-path = c .before .before .before .before .before .before .before .before .before .before .before .is-bad-path in
+    let c-if1 = c .before .before .before .before .before .before .before .before .before .before .before .before .if1 in
+    let c-args = c .before .before .before .before .before .before .before .before .before .before .before .before .before .before .before .before .args in
+    (c-read .ensures .1 .1, (c-read .ensures .1 .0, record { short = c-if1 .left; fits = good-fits (now (c-args .path)) (sym (c-is-bad-path .ensures) ∙ c-if2 .left) }))
 
 returns-5 : tie.Need-returns-5
 returns-5 c =
-    let a = c .before .before .before .before .before .before .before .before .before .before .before .before .args in
-    let r = c .before .before .before .read in
-    c .answer-in .ensures ∙ sym (answer-read (now (a .text)) (now (a .name)) (now (a .path)) (a .asked .0) (a .owner) (c .before .before .before .before .before .before .before .before .if1 .left) (sym (c .before .before .before .before .before .before .before .is-bad-path .ensures) ∙ c .before .before .before .before .before .before .if2 .left) (sym (c .before .before .before .before .before .is-bad-asked .ensures) ∙ c .before .before .before .before .if3 .left) (sym (seen-accepted (now (a .text)) (r .result) (c .before .if4 .left)) ∙ r .ensures .0))
+    let c-if4 = c .before .before .before .before .before .if4 in
+    let c-read = c .before .before .before .before .before .before .before .read in
+    let c-if3 = c .before .before .before .before .before .before .before .before .before .if3 in
+    let c-is-bad-asked = c .before .before .before .before .before .before .before .before .before .before .is-bad-asked in
+    let c-if2 = c .before .before .before .before .before .before .before .before .before .before .before .if2 in
+    let c-is-bad-path = c .before .before .before .before .before .before .before .before .before .before .before .before .is-bad-path in
+    let c-if1 = c .before .before .before .before .before .before .before .before .before .before .before .before .before .if1 in
+    let c-args = c .before .before .before .before .before .before .before .before .before .before .before .before .before .before .before .before .before .args in
+    answer-accepted (now (c-args .text)) (now (c-args .name)) (now (c-args .path)) (c-args .asked .0) (c-args .owner) (c-if1 .left) (sym (c-is-bad-path .ensures) ∙ c-if2 .left) (sym (c-is-bad-asked .ensures) ∙ c-if3 .left) _ (c-read .result) (c-read .ensures .0) (c-if4 .left) (c .answer-in .ensures)
 
 pub decide-spec : {M : Type 1} → statement M
 decide-spec =

@@ -2,7 +2,7 @@ use borrow.Author.Needs.{needs}
 use native.Mathlib.Omega.{arith}
 use denote.Ref.{now}
 use mathlib.Core.Path.{_≡_, refl, sym, ap, _∙_}
-use Prim.Native.Nat.{_+_, _-_, _*_, _≤_, min, ℕ, _<_}
+use Prim.Native.Nat.{_+_, _-_, _*_, _≤_, ℕ, _<_}
 use mathlib.Core.List.{List, [], _∷_}
 use lib.ListN.{length, getD, drop}
 use Rattle.scan.specs.Bytes.{span}
@@ -12,12 +12,12 @@ use Rattle.pattern.specs.Codes.{decode}
 use Rattle.pattern.specs.Reads.{codeOf, seenPart}
 use Rattle.pattern.specs.Expansions.{listing, ofParts, ofName}
 use Rattle.pattern.specs.Table.{env, ofNumber}
-use Rattle.pattern.proofs.Laws.{partEnd-le, partEnd-more, number-le, number-of}
+use Rattle.pattern.proofs.Laws.{partEnd-le, partEnd-more}
 use Rattle.sizes.specs.Sizes.{partChoices, valueChoices}
 use Rattle.sizes.proofs.Laws.{size-count, known-fewer}
 use Rattle.sizes.proofs.Loops.{parts-more, parts-none}
 use Rattle.expand.specs.Write.{Asked}
-use Rattle.expand.proofs.Laws.{Writing, writing-none, writing-asks, writing-more, writing-all, chosen-asks, chosen-wrote, wrote-only}
+use Rattle.expand.proofs.Laws.{Writing, writing-none, writing-turn, writing-all, chosen-writes, named-le, named-choices, wrote-only}
 use native.Mathlib.Nat.{not-suc-le-zero}
 use borrow.Fn.Kinds.{In}
 use borrow.Fn.PlainCycle.{Measures, is, falls, and}
@@ -33,540 +33,38 @@ use Rattle.expand.proofs.high.Reads as high-reads
 use Rattle.expand.proofs.low.Reads as low-reads
 use Rattle.expand.proofs.pick_value.Reads as pick-value-reads
 use Rattle.expand.proofs.push.Reads as push-reads
-use Rattle.pattern.proofs.named.Reads as named-reads
-use Rattle.pattern.proofs.part_at.Reads as part-at-reads
-use Rattle.pattern.proofs.part_end.Reads as part-end-reads
-use Rattle.pattern.proofs.piece_code.Reads as piece-code-reads
+use Rattle.variables.proofs.named.Reads as named-reads
+use Rattle.parts.proofs.part_at.Reads as part-at-reads
+use Rattle.ends.proofs.part_end.Reads as part-end-reads
+use Rattle.parts.proofs.piece_code.Reads as piece-code-reads
 use Rattle.scan.proofs.span.Reads as span-reads
-use Rattle.sizes.proofs.part_size.Reads as part-size-reads
+use Rattle.measure.proofs.part_size.Reads as part-size-reads
 
-abbrev μ-write-part : Measures 3 write-part-kinds.ps ℕ
+abbrev μ-write-part : Measures 4 write-part-kinds.ps ℕ
 μ-write-part κs a = 2 * (a .0)
 
-abbrev μ-write-value : Measures 3 write-value-kinds.ps ℕ
+abbrev μ-write-value : Measures 4 write-value-kinds.ps ℕ
 μ-write-value κs a = 2 * (a .0) + 1
 
-abbrev write-part-at : ℕ → In 3 write-part-kinds.ps
+abbrev write-part-at : ℕ → In 4 write-part-kinds.ps
 write-part-at t =
-    and 3 write-part-kinds.ps (is 3 write-part-kinds.ps μ-write-part t) write-part.Pre
+    and 4 write-part-kinds.ps (is 4 write-part-kinds.ps μ-write-part t) write-part.Pre
 
-abbrev write-part-below : ℕ → In 3 write-part-kinds.ps
+abbrev write-part-below : ℕ → In 4 write-part-kinds.ps
 write-part-below t =
-    and 3 write-part-kinds.ps (falls 3 write-part-kinds.ps _<_ μ-write-part t) write-part.Pre
+    and 4 write-part-kinds.ps (falls 4 write-part-kinds.ps _<_ μ-write-part t) write-part.Pre
 
-abbrev write-value-at : ℕ → In 3 write-value-kinds.ps
+abbrev write-value-at : ℕ → In 4 write-value-kinds.ps
 write-value-at t =
-    and 3 write-value-kinds.ps (is 3 write-value-kinds.ps μ-write-value t) write-value.Pre
+    and 4 write-value-kinds.ps (is 4 write-value-kinds.ps μ-write-value t) write-value.Pre
 
-abbrev write-value-below : ℕ → In 3 write-value-kinds.ps
+abbrev write-value-below : ℕ → In 4 write-value-kinds.ps
 write-value-below t =
-    and 3 write-value-kinds.ps (falls 3 write-value-kinds.ps _<_ μ-write-value t) write-value.Pre
+    and 4 write-value-kinds.ps (falls 4 write-value-kinds.ps _<_ μ-write-value t) write-value.Pre
 
-write-part-enum-known-p : (t : ℕ) → write-part-lts.Need-enum-known-p (
-  piece-code-reads.Asked,
-  piece-code-reads.Learnt,
-  push-reads.Asked,
-  push-reads.Learnt,
-  named-reads.Asked,
-  named-reads.Learnt,
-  pick-value-reads.Asked,
-  pick-value-reads.Learnt,
-  write-value-below t,
-  write-value.Post,
-) (write-part-at t) write-part.Post
-write-part-enum-known-p t c = search needs
-
-write-part-piece-code-requires : (t : ℕ) → write-part-lts.Need-piece-code-requires (
-  piece-code-reads.Asked,
-  piece-code-reads.Learnt,
-  push-reads.Asked,
-  push-reads.Learnt,
-  named-reads.Asked,
-  named-reads.Learnt,
-  pick-value-reads.Asked,
-  pick-value-reads.Learnt,
-  write-value-below t,
-  write-value.Post,
-) (write-part-at t) write-part.Post
-write-part-piece-code-requires t c κs = search needs
-
-write-part-push-requires : (t : ℕ) → write-part-lts.Need-push-requires (
-  piece-code-reads.Asked,
-  piece-code-reads.Learnt,
-  push-reads.Asked,
-  push-reads.Learnt,
-  named-reads.Asked,
-  named-reads.Learnt,
-  pick-value-reads.Asked,
-  pick-value-reads.Learnt,
-  write-value-below t,
-  write-value.Post,
-) (write-part-at t) write-part.Post
-write-part-push-requires t c κs = search needs
-
-write-part-enum-known-p-2 : (t : ℕ) → write-part-lts.Need-enum-known-p-2 (
-  piece-code-reads.Asked,
-  piece-code-reads.Learnt,
-  push-reads.Asked,
-  push-reads.Learnt,
-  named-reads.Asked,
-  named-reads.Learnt,
-  pick-value-reads.Asked,
-  pick-value-reads.Learnt,
-  write-value-below t,
-  write-value.Post,
-) (write-part-at t) write-part.Post
-write-part-enum-known-p-2 t c = search needs
-
-write-part-named-requires : (t : ℕ) → write-part-lts.Need-named-requires (
-  piece-code-reads.Asked,
-  piece-code-reads.Learnt,
-  push-reads.Asked,
-  push-reads.Learnt,
-  named-reads.Asked,
-  named-reads.Learnt,
-  pick-value-reads.Asked,
-  pick-value-reads.Learnt,
-  write-value-below t,
-  write-value.Post,
-) (write-part-at t) write-part.Post
-write-part-named-requires t c κs = search needs
-
-write-part-returns : (t : ℕ) → write-part-lts.Need-returns (
-  piece-code-reads.Asked,
-  piece-code-reads.Learnt,
-  push-reads.Asked,
-  push-reads.Learnt,
-  named-reads.Asked,
-  named-reads.Learnt,
-  pick-value-reads.Asked,
-  pick-value-reads.Learnt,
-  write-value-below t,
-  write-value.Post,
-) (write-part-at t) write-part.Post
-write-part-returns t c =
-    let c-args = c .before .before .before .before .before .before .before .args in
-    let c-named = c .before .named in
-    let c-p2 = c .before .before .before .p2 in
-    λ q k.
-    let e : (partChoices (env (now (c-args .text)) (now (c-args .vars)) (c-args .n)) (seenPart (now (c-args .text)) (c-args .p))) ≡ ofNumber listing (now (c-args .text)) (now (c-args .vars)) (c-named .result) =
-    rw (c-p2 .given .1, c-named .ensures) (number-of (now (c-args .text)) (now (c-args .vars)) (span (now (c-args .text)) (c-p2 .given .0 .0) (c-p2 .given .0 .1 .0)) listing (min 32 (c-args .n))) in
-    absurd (not-suc-le-zero (rw (e, c .if1 .taken) at (q .within)))
-
-write-part-sub-pick-value : (t : ℕ) → write-part-lts.Need-sub-pick-value (
-  piece-code-reads.Asked,
-  piece-code-reads.Learnt,
-  push-reads.Asked,
-  push-reads.Learnt,
-  named-reads.Asked,
-  named-reads.Learnt,
-  pick-value-reads.Asked,
-  pick-value-reads.Learnt,
-  write-value-below t,
-  write-value.Post,
-) (write-part-at t) write-part.Post
-write-part-sub-pick-value t c = search needs
-
-write-part-pick-value-requires : (t : ℕ) → write-part-lts.Need-pick-value-requires (
-  piece-code-reads.Asked,
-  piece-code-reads.Learnt,
-  push-reads.Asked,
-  push-reads.Learnt,
-  named-reads.Asked,
-  named-reads.Learnt,
-  pick-value-reads.Asked,
-  pick-value-reads.Learnt,
-  write-value-below t,
-  write-value.Post,
-) (write-part-at t) write-part.Post
-write-part-pick-value-requires t c κs =
-    let c-args = c .before .before .before .before .before .before .before .args in
-    let c-p2 = c .before .before .before .p2 in
-    omega (arith, c .before .named .ensures, number-le (now (c-args .text)) (now (c-args .vars)) (span (now (c-args .text)) (c-p2 .given .0 .0) (c-p2 .given .0 .1 .0)) (min 32 (c-args .n)))
-
-write-part-sub-write-value : (t : ℕ) → write-part-lts.Need-sub-write-value (
-  piece-code-reads.Asked,
-  piece-code-reads.Learnt,
-  push-reads.Asked,
-  push-reads.Learnt,
-  named-reads.Asked,
-  named-reads.Learnt,
-  pick-value-reads.Asked,
-  pick-value-reads.Learnt,
-  write-value-below t,
-  write-value.Post,
-) (write-part-at t) write-part.Post
-write-part-sub-write-value t c = search needs
-
-write-part-write-value-requires : (t : ℕ) → write-part-lts.Need-write-value-requires (
-  piece-code-reads.Asked,
-  piece-code-reads.Learnt,
-  push-reads.Asked,
-  push-reads.Learnt,
-  named-reads.Asked,
-  named-reads.Learnt,
-  pick-value-reads.Asked,
-  pick-value-reads.Learnt,
-  write-value-below t,
-  write-value.Post,
-) (write-part-at t) write-part.Post
-write-part-write-value-requires t c κs =
-    let c-args = c .before .before .before .before .before .before .before .before .before .args in
-    let c-p2 = c .before .before .before .before .before .p2 in
-    (omega (arith, c .before .before .before .before .before .before .before .before .before .pre .0, c .before .before .before .named .ensures, number-le (now (c-args .text)) (now (c-args .vars)) (span (now (c-args .text)) (c-p2 .given .0 .0) (c-p2 .given .0 .1 .0)) (min 32 (c-args .n)), c .before .before .if1 .left), search needs)
-
-write-part-enum-told : (t : ℕ) → write-part-lts.Need-enum-told (
-  piece-code-reads.Asked,
-  piece-code-reads.Learnt,
-  push-reads.Asked,
-  push-reads.Learnt,
-  named-reads.Asked,
-  named-reads.Learnt,
-  pick-value-reads.Asked,
-  pick-value-reads.Learnt,
-  write-value-below t,
-  write-value.Post,
-) (write-part-at t) write-part.Post
-write-part-enum-told t c = search needs
-
-write-part-same-length : (t : ℕ) → write-part-lts.Need-same-length (
-  piece-code-reads.Asked,
-  piece-code-reads.Learnt,
-  push-reads.Asked,
-  push-reads.Learnt,
-  named-reads.Asked,
-  named-reads.Learnt,
-  pick-value-reads.Asked,
-  pick-value-reads.Learnt,
-  write-value-below t,
-  write-value.Post,
-) (write-part-at t) write-part.Post
-write-part-same-length t c = search needs
-
-write-part-returns-2 : (t : ℕ) → write-part-lts.Need-returns-2 (
-  piece-code-reads.Asked,
-  piece-code-reads.Learnt,
-  push-reads.Asked,
-  push-reads.Learnt,
-  named-reads.Asked,
-  named-reads.Learnt,
-  pick-value-reads.Asked,
-  pick-value-reads.Learnt,
-  write-value-below t,
-  write-value.Post,
-) (write-part-at t) write-part.Post
-write-part-returns-2 t c =
-    let c-p = c .before .before .before .before .before .before .p in
-    let c-args = c .before .before .before .before .before .before .before .before .before .before .args in
-    let c-piece-code = c .before .before .before .piece-code in
-    λ q k.
-    let f : codeOf (c-p .given .0 .0) ≤ 65536 + length (now (c-args .text)) = rw (c-p .given .1) at k in
-    let g : c-piece-code .result ≡ codeOf (c-p .given .0 .0) = c-piece-code .ensures (omega (arith, q .short)) in
-    wrote-only (now (c-args .text)) (partChoices (env (now (c-args .text)) (now (c-args .vars)) (c-args .n)) (seenPart (now (c-args .text)) (c-args .p))) (decode (now (c-args .text)) (c-piece-code .result) ∷ []) (c-args .d) (rw (c-p .given .1, g)) (q .within) (c .before .before .push .ensures (q .room) (now (c-args .text)))
-
-write-part-same-length-2 : (t : ℕ) → write-part-lts.Need-same-length-2 (
-  piece-code-reads.Asked,
-  piece-code-reads.Learnt,
-  push-reads.Asked,
-  push-reads.Learnt,
-  named-reads.Asked,
-  named-reads.Learnt,
-  pick-value-reads.Asked,
-  pick-value-reads.Learnt,
-  write-value-below t,
-  write-value.Post,
-) (write-part-at t) write-part.Post
-write-part-same-length-2 t c = search needs
-
-write-part-returns-3 : (t : ℕ) → write-part-lts.Need-returns-3 (
-  piece-code-reads.Asked,
-  piece-code-reads.Learnt,
-  push-reads.Asked,
-  push-reads.Learnt,
-  named-reads.Asked,
-  named-reads.Learnt,
-  pick-value-reads.Asked,
-  pick-value-reads.Learnt,
-  write-value-below t,
-  write-value.Post,
-) (write-part-at t) write-part.Post
-write-part-returns-3 t c =
-    let c-args = c .before .before .before .before .before .before .before .before .before .before .before .before .args in
-    let c-named = c .before .before .before .before .before .before .named in
-    let c-p2 = c .before .before .before .before .before .before .before .before .p2 in
-    λ q k.
-    let e : (partChoices (env (now (c-args .text)) (now (c-args .vars)) (c-args .n)) (seenPart (now (c-args .text)) (c-args .p))) ≡ ofNumber listing (now (c-args .text)) (now (c-args .vars)) (c-named .result) =
-    rw (c-p2 .given .1, c-named .ensures) (number-of (now (c-args .text)) (now (c-args .vars)) (span (now (c-args .text)) (c-p2 .given .0 .0) (c-p2 .given .0 .1 .0)) listing (min 32 (c-args .n))) in
-    let h : c-named .result ≤ min 32 (c-args .n) = omega (arith, c-named .ensures, number-le (now (c-args .text)) (now (c-args .vars)) (span (now (c-args .text)) (c-p2 .given .0 .0) (c-p2 .given .0 .1 .0)) (min 32 (c-args .n))) in
-    let i : c-named .result - 1 + 1 ≡ c-named .result = omega (arith, c .before .before .before .before .before .if1 .left) in
-    let known = known-fewer {k = c-named .result - 1} (q .known) (omega arith) in
-    let chosen = c .before .before .before .before .pick-value .ensures known (q .small) (rw (i, ← e) (q .within)) in
-    let j : (partChoices (env (now (c-args .text)) (now (c-args .vars)) (c-args .n)) (seenPart (now (c-args .text)) (c-args .p))) ≡ ofNumber listing (now (c-args .text)) (now (c-args .vars)) (c-named .result - 1 + 1) = rw i e in
-    chosen-wrote chosen j (c .before .before .write-value .ensures (chosen-asks chosen q known))
-
-write-part-returns-4 : (t : ℕ) → write-part-lts.Need-returns-4 (
-  piece-code-reads.Asked,
-  piece-code-reads.Learnt,
-  push-reads.Asked,
-  push-reads.Learnt,
-  named-reads.Asked,
-  named-reads.Learnt,
-  pick-value-reads.Asked,
-  pick-value-reads.Learnt,
-  write-value-below t,
-  write-value.Post,
-) (write-part-at t) write-part.Post
-write-part-returns-4 t c = λ q k. absurd (not-suc-le-zero (rw (c .enum-told .given .1) at (q .within)))
-
-abbrev write-value-Inv-loop : write-value-lts.InvT-loop
-write-value-Inv-loop n text vars sizes a e d out₀ m s left₀ w₀ at₀ out left w at =
-    (length out ≡ length out₀)
-    × (Asked text vars n sizes (valueChoices (env text vars n) (span text a e)) d out₀ m → Writing text out₀ m out w left (ofParts listing (ofName listing (env text vars n)) (parts 0 (drop at s))) (getD (valueChoices (env text vars n) (span text a e)) d []))
-
-abbrev write-value-μ-loop : write-value-lts.MeasureT-loop
-write-value-μ-loop n text vars sizes a e d out₀ m s left₀ w₀ at₀ out left w at = length s - at
-
-write-value-span-requires : (t : ℕ) → write-value-lts.Need-span-requires (
-  span-reads.Asked,
-  span-reads.Learnt,
-  part-at-reads.Asked,
-  part-at-reads.Learnt,
-  part-size-reads.Asked,
-  part-size-reads.Learnt,
-  low-reads.Asked,
-  low-reads.Learnt,
-  write-part-below t,
-  write-part.Post,
-  high-reads.Asked,
-  high-reads.Learnt,
-  part-end-reads.Asked,
-  part-end-reads.Learnt,
-) (write-value-at t) write-value.Post write-value-Inv-loop write-value-μ-loop
-write-value-span-requires t c κs = search needs
-
-write-value-loop-holds : (t : ℕ) → write-value-lts.Need-loop-holds (
-  span-reads.Asked,
-  span-reads.Learnt,
-  part-at-reads.Asked,
-  part-at-reads.Learnt,
-  part-size-reads.Asked,
-  part-size-reads.Learnt,
-  low-reads.Asked,
-  low-reads.Learnt,
-  write-part-below t,
-  write-part.Post,
-  high-reads.Asked,
-  high-reads.Learnt,
-  part-end-reads.Asked,
-  part-end-reads.Learnt,
-) (write-value-at t) write-value.Post write-value-Inv-loop write-value-μ-loop
-write-value-loop-holds t c = (refl, λ q. rw (c .span .ensures) (writing-none q))
-
-write-value-part-at-requires : (t : ℕ) → write-value-lts.Need-part-at-requires (
-  span-reads.Asked,
-  span-reads.Learnt,
-  part-at-reads.Asked,
-  part-at-reads.Learnt,
-  part-size-reads.Asked,
-  part-size-reads.Learnt,
-  low-reads.Asked,
-  low-reads.Learnt,
-  write-part-below t,
-  write-part.Post,
-  high-reads.Asked,
-  high-reads.Learnt,
-  part-end-reads.Asked,
-  part-end-reads.Learnt,
-) (write-value-at t) write-value.Post write-value-Inv-loop write-value-μ-loop
-write-value-part-at-requires t c κs = search needs
-
-write-value-part-size-requires : (t : ℕ) → write-value-lts.Need-part-size-requires (
-  span-reads.Asked,
-  span-reads.Learnt,
-  part-at-reads.Asked,
-  part-at-reads.Learnt,
-  part-size-reads.Asked,
-  part-size-reads.Learnt,
-  low-reads.Asked,
-  low-reads.Learnt,
-  write-part-below t,
-  write-part.Post,
-  high-reads.Asked,
-  high-reads.Learnt,
-  part-end-reads.Asked,
-  part-end-reads.Learnt,
-) (write-value-at t) write-value.Post write-value-Inv-loop write-value-μ-loop
-write-value-part-size-requires t c κs = search needs
-
-write-value-low-requires : (t : ℕ) → write-value-lts.Need-low-requires (
-  span-reads.Asked,
-  span-reads.Learnt,
-  part-at-reads.Asked,
-  part-at-reads.Learnt,
-  part-size-reads.Asked,
-  part-size-reads.Learnt,
-  low-reads.Asked,
-  low-reads.Learnt,
-  write-part-below t,
-  write-part.Post,
-  high-reads.Asked,
-  high-reads.Learnt,
-  part-end-reads.Asked,
-  part-end-reads.Learnt,
-) (write-value-at t) write-value.Post write-value-Inv-loop write-value-μ-loop
-write-value-low-requires t c κs = search needs
-
-write-value-write-part-requires : (t : ℕ) → write-value-lts.Need-write-part-requires (
-  span-reads.Asked,
-  span-reads.Learnt,
-  part-at-reads.Asked,
-  part-at-reads.Learnt,
-  part-size-reads.Asked,
-  part-size-reads.Learnt,
-  low-reads.Asked,
-  low-reads.Learnt,
-  write-part-below t,
-  write-part.Post,
-  high-reads.Asked,
-  high-reads.Learnt,
-  part-end-reads.Asked,
-  part-end-reads.Learnt,
-) (write-value-at t) write-value.Post write-value-Inv-loop write-value-μ-loop
-write-value-write-part-requires t c κs = (omega (arith, c .before .before .before .before .before .before .before .before .before .pre .0), search needs)
-
-write-value-high-requires : (t : ℕ) → write-value-lts.Need-high-requires (
-  span-reads.Asked,
-  span-reads.Learnt,
-  part-at-reads.Asked,
-  part-at-reads.Learnt,
-  part-size-reads.Asked,
-  part-size-reads.Learnt,
-  low-reads.Asked,
-  low-reads.Learnt,
-  write-part-below t,
-  write-part.Post,
-  high-reads.Asked,
-  high-reads.Learnt,
-  part-end-reads.Asked,
-  part-end-reads.Learnt,
-) (write-value-at t) write-value.Post write-value-Inv-loop write-value-μ-loop
-write-value-high-requires t c κs = search needs
-
-write-value-part-end-requires : (t : ℕ) → write-value-lts.Need-part-end-requires (
-  span-reads.Asked,
-  span-reads.Learnt,
-  part-at-reads.Asked,
-  part-at-reads.Learnt,
-  part-size-reads.Asked,
-  part-size-reads.Learnt,
-  low-reads.Asked,
-  low-reads.Learnt,
-  write-part-below t,
-  write-part.Post,
-  high-reads.Asked,
-  high-reads.Learnt,
-  part-end-reads.Asked,
-  part-end-reads.Learnt,
-) (write-value-at t) write-value.Post write-value-Inv-loop write-value-μ-loop
-write-value-part-end-requires t c κs = search needs
-
-write-value-loop-less : (t : ℕ) → write-value-lts.Need-loop-less (
-  span-reads.Asked,
-  span-reads.Learnt,
-  part-at-reads.Asked,
-  part-at-reads.Learnt,
-  part-size-reads.Asked,
-  part-size-reads.Learnt,
-  low-reads.Asked,
-  low-reads.Learnt,
-  write-part-below t,
-  write-part.Post,
-  high-reads.Asked,
-  high-reads.Learnt,
-  part-end-reads.Asked,
-  part-end-reads.Learnt,
-) (write-value-at t) write-value.Post write-value-Inv-loop write-value-μ-loop
-write-value-loop-less t c =
-    let c-span = c .before .before .before .before .before .before .before .before .before .before .before .span in
-    let c-loop = c .before .before .before .before .before .before .before .before .before .before .loop in
-    omega (arith, c .part-end .ensures, partEnd-le (now (c-span .result)) (c-loop .at), partEnd-more (now (c-span .result)) (c-loop .at) (search needs))
-
-write-value-loop-again : (t : ℕ) → write-value-lts.Need-loop-again (
-  span-reads.Asked,
-  span-reads.Learnt,
-  part-at-reads.Asked,
-  part-at-reads.Learnt,
-  part-size-reads.Asked,
-  part-size-reads.Learnt,
-  low-reads.Asked,
-  low-reads.Learnt,
-  write-part-below t,
-  write-part.Post,
-  high-reads.Asked,
-  high-reads.Learnt,
-  part-end-reads.Asked,
-  part-end-reads.Learnt,
-) (write-value-at t) write-value.Post write-value-Inv-loop write-value-μ-loop
-write-value-loop-again t c =
-    let c-loop = c .before .before .before .before .before .before .before .before .before .before .loop in
-    let c-args = c .before .before .before .before .before .before .before .before .before .before .before .before .before .before .args in
-    let c-part-at = c .before .before .before .before .before .before .before .before .part-at in
-    let c-part-end = c .part-end in
-    let c-span = c .before .before .before .before .before .before .before .before .before .before .before .span in
-    let c-part-size = c .before .before .before .before .before .before .before .part-size in
-    let c-low = c .before .before .before .before .before .before .low in (
-      search needs,
-      λ q.
-          writing-more (c-loop .inv .1 q) (partChoices (env (now (c-args .text)) (now (c-args .vars)) (c-args .n)) (seenPart (now (c-args .text)) (c-part-at .result)))
-          (ofParts listing (ofName listing (env (now (c-args .text)) (now (c-args .vars)) (c-args .n))) (parts 0 (drop (c-part-end .result) (now (c-span .result))))) (size-count (partChoices (env (now (c-args .text)) (now (c-args .vars)) (c-args .n)) (seenPart (now (c-args .text)) (c-part-at .result))) (c-part-size .ensures (q .known)))
-          (parts-more (ofName listing (env (now (c-args .text)) (now (c-args .vars)) (c-args .n))) (now (c-span .result)) (c-loop .at) (seenPart (now (c-args .text)) (c-part-at .result)) (c-part-end .result) (search needs) (c-part-at .ensures .is ∙ ap (λ (l : List ℕ). partAt l (c-loop .at)) (sym (c-span .ensures))) (c-part-end .ensures))
-          (c-low .ensures) (c .before .high .ensures)
-          (c .before .before .before .before .write-part .ensures (writing-asks (c-loop .inv .1 q) (partChoices (env (now (c-args .text)) (now (c-args .vars)) (c-args .n)) (seenPart (now (c-args .text)) (c-part-at .result)))
-          (ofParts listing (ofName listing (env (now (c-args .text)) (now (c-args .vars)) (c-args .n))) (parts 0 (drop (c-part-end .result) (now (c-span .result))))) (size-count (partChoices (env (now (c-args .text)) (now (c-args .vars)) (c-args .n)) (seenPart (now (c-args .text)) (c-part-at .result))) (c-part-size .ensures (q .known)))
-          (parts-more (ofName listing (env (now (c-args .text)) (now (c-args .vars)) (c-args .n))) (now (c-span .result)) (c-loop .at) (seenPart (now (c-args .text)) (c-part-at .result)) (c-part-end .result) (search needs) (c-part-at .ensures .is ∙ ap (λ (l : List ℕ). partAt l (c-loop .at)) (sym (c-span .ensures))) (c-part-end .ensures)) (q .known) (q .short) (c-low .ensures)) (c-part-at .ensures .fits)),
-    )
-
-write-value-same-length : (t : ℕ) → write-value-lts.Need-same-length (
-  span-reads.Asked,
-  span-reads.Learnt,
-  part-at-reads.Asked,
-  part-at-reads.Learnt,
-  part-size-reads.Asked,
-  part-size-reads.Learnt,
-  low-reads.Asked,
-  low-reads.Learnt,
-  write-part-below t,
-  write-part.Post,
-  high-reads.Asked,
-  high-reads.Learnt,
-  part-end-reads.Asked,
-  part-end-reads.Learnt,
-) (write-value-at t) write-value.Post write-value-Inv-loop write-value-μ-loop
-write-value-same-length t c = search needs
-
-write-value-returns : (t : ℕ) → write-value-lts.Need-returns (
-  span-reads.Asked,
-  span-reads.Learnt,
-  part-at-reads.Asked,
-  part-at-reads.Learnt,
-  part-size-reads.Asked,
-  part-size-reads.Learnt,
-  low-reads.Asked,
-  low-reads.Learnt,
-  write-part-below t,
-  write-part.Post,
-  high-reads.Asked,
-  high-reads.Learnt,
-  part-end-reads.Asked,
-  part-end-reads.Learnt,
-) (write-value-at t) write-value.Post write-value-Inv-loop write-value-μ-loop
-write-value-returns t c =
-    let c-loop = c .before .loop in
-    let c-args = c .before .before .before .before .before .args in
-    λ q. writing-all (c-loop .inv .1 q) (parts-none (ofName listing (env (now (c-args .text)) (now (c-args .vars)) (c-args .n))) (now (c .before .before .span .result)) (c-loop .at) (search needs))
-
-pub +write-part+write-value-spec : {M : Type 1} → statement M
-+write-part+write-value-spec = close μ-write-part μ-write-value (λ t. write-part-lts.spec (
+-- what each call asks and gives, in the order of the code
+abbrev part-claims : ℕ → write-part-lts.Claims
+part-claims t = (
   piece-code-reads.Asked,
   piece-code-reads.Learnt,
   push-reads.Asked,
@@ -578,6 +76,171 @@ pub +write-part+write-value-spec : {M : Type 1} → statement M
   write-value-below t,
   write-value.Post,
 )
+
+abbrev value-claims : ℕ → write-value-lts.Claims
+value-claims t = (
+  span-reads.Asked,
+  span-reads.Learnt,
+  part-at-reads.Asked,
+  part-at-reads.Learnt,
+  part-size-reads.Asked,
+  part-size-reads.Learnt,
+  low-reads.Asked,
+  low-reads.Learnt,
+  write-part-below t,
+  write-part.Post,
+  high-reads.Asked,
+  high-reads.Learnt,
+  part-end-reads.Asked,
+  part-end-reads.Learnt,
+)
+
+write-part-enum-known-p : (t : ℕ) → write-part-lts.Need-enum-known-p (part-claims t) (write-part-at t) write-part.Post
+write-part-enum-known-p t c = search needs
+
+write-part-piece-code-requires : (t : ℕ) → write-part-lts.Need-piece-code-requires (part-claims t) (write-part-at t) write-part.Post
+write-part-piece-code-requires t c κs = search needs
+
+write-part-push-requires : (t : ℕ) → write-part-lts.Need-push-requires (part-claims t) (write-part-at t) write-part.Post
+write-part-push-requires t c κs = search needs
+
+write-part-enum-known-p-2 : (t : ℕ) → write-part-lts.Need-enum-known-p-2 (part-claims t) (write-part-at t) write-part.Post
+write-part-enum-known-p-2 t c = search needs
+
+write-part-named-requires : (t : ℕ) → write-part-lts.Need-named-requires (part-claims t) (write-part-at t) write-part.Post
+write-part-named-requires t c κs = search needs
+
+write-part-returns : (t : ℕ) → write-part-lts.Need-returns (part-claims t) (write-part-at t) write-part.Post
+write-part-returns t c =
+    let c-args = c .before .before .before .before .before .before .before .args in
+    let c-named = c .before .named in
+    let c-p2 = c .before .before .before .p2 in
+    let e = named-choices (now (c-args .text)) (now (c-args .vars)) (c-args .n) (c-named .result) (c-p2 .given .0 .0) (c-p2 .given .0 .1 .0) (c-named .ensures) (c-args .p) (c-p2 .given .1) in
+    λ q k. absurd (not-suc-le-zero (rw (e, c .if1 .taken) at (q .within)))
+
+write-part-sub-pick-value : (t : ℕ) → write-part-lts.Need-sub-pick-value (part-claims t) (write-part-at t) write-part.Post
+write-part-sub-pick-value t c = search needs
+
+write-part-pick-value-requires : (t : ℕ) → write-part-lts.Need-pick-value-requires (part-claims t) (write-part-at t) write-part.Post
+write-part-pick-value-requires t c κs =
+    let c-args = c .before .before .before .before .before .before .before .args in
+    let c-named = c .before .named in
+    let c-p2 = c .before .before .before .p2 in
+    omega (arith, named-le (now (c-args .text)) (now (c-args .vars)) (c-args .n) (c-named .result) (c-p2 .given .0 .0) (c-p2 .given .0 .1 .0) (c-named .ensures))
+
+write-part-sub-write-value : (t : ℕ) → write-part-lts.Need-sub-write-value (part-claims t) (write-part-at t) write-part.Post
+write-part-sub-write-value t c = search needs
+
+write-part-write-value-requires : (t : ℕ) → write-part-lts.Need-write-value-requires (part-claims t) (write-part-at t) write-part.Post
+write-part-write-value-requires t c κs =
+    let c-args = c .before .before .before .before .before .before .before .before .before .args in
+    let c-named = c .before .before .before .named in
+    let c-p2 = c .before .before .before .before .before .p2 in
+    (omega (arith, c .before .before .before .before .before .before .before .before .before .pre .0, named-le (now (c-args .text)) (now (c-args .vars)) (c-args .n) (c-named .result) (c-p2 .given .0 .0) (c-p2 .given .0 .1 .0) (c-named .ensures), c .before .before .if1 .left), search needs)
+
+write-part-enum-told : (t : ℕ) → write-part-lts.Need-enum-told (part-claims t) (write-part-at t) write-part.Post
+write-part-enum-told t c = search needs
+
+write-part-same-length : (t : ℕ) → write-part-lts.Need-same-length (part-claims t) (write-part-at t) write-part.Post
+write-part-same-length t c = search needs
+
+write-part-returns-2 : (t : ℕ) → write-part-lts.Need-returns-2 (part-claims t) (write-part-at t) write-part.Post
+write-part-returns-2 t c =
+    let c-p = c .before .before .before .before .before .before .p in
+    let c-args = c .before .before .before .before .before .before .before .before .before .before .args in
+    let c-piece-code = c .before .before .before .piece-code in
+    λ q k.
+    let f : codeOf (c-p .given .0 .0) ≤ 65536 + length (now (c-args .text)) = rw (c-p .given .1) at k in
+    let g : c-piece-code .result ≡ codeOf (c-p .given .0 .0) = c-piece-code .ensures (omega (arith, q .short)) in
+    wrote-only (now (c-args .text)) (partChoices (env (now (c-args .text)) (now (c-args .vars)) (c-args .n)) (seenPart (now (c-args .text)) (c-args .p))) (decode (now (c-args .text)) (c-piece-code .result) ∷ []) (c-args .d) (rw (c-p .given .1, g)) (q .within) (c .before .before .push .ensures (q .room) (now (c-args .text)))
+
+write-part-same-length-2 : (t : ℕ) → write-part-lts.Need-same-length-2 (part-claims t) (write-part-at t) write-part.Post
+write-part-same-length-2 t c = search needs
+
+write-part-returns-3 : (t : ℕ) → write-part-lts.Need-returns-3 (part-claims t) (write-part-at t) write-part.Post
+write-part-returns-3 t c =
+    let c-args = c .before .before .before .before .before .before .before .before .before .before .before .before .args in
+    let c-named = c .before .before .before .before .before .before .named in
+    let c-p2 = c .before .before .before .before .before .before .before .before .p2 in
+    let xs = partChoices (env (now (c-args .text)) (now (c-args .vars)) (c-args .n)) (seenPart (now (c-args .text)) (c-args .p)) in
+    let ys = ofNumber listing (now (c-args .text)) (now (c-args .vars)) (c-named .result - 1 + 1) in
+    let h = named-le (now (c-args .text)) (now (c-args .vars)) (c-args .n) (c-named .result) (c-p2 .given .0 .0) (c-p2 .given .0 .1 .0) (c-named .ensures) in
+    let i : c-named .result - 1 + 1 ≡ c-named .result = omega (arith, c .before .before .before .before .before .if1 .left) in
+    let e : xs ≡ ys = rw i (named-choices (now (c-args .text)) (now (c-args .vars)) (c-args .n) (c-named .result) (c-p2 .given .0 .0) (c-p2 .given .0 .1 .0) (c-named .ensures) (c-args .p) (c-p2 .given .1)) in
+    λ q k.
+    let known = known-fewer {k = c-named .result - 1} (q .known) (omega arith) in
+    chosen-writes xs ys e q known (c .before .before .before .before .pick-value .ensures known (q .small) (rw e at (q .within))) (c .before .before .write-value .ensures)
+
+write-part-returns-4 : (t : ℕ) → write-part-lts.Need-returns-4 (part-claims t) (write-part-at t) write-part.Post
+write-part-returns-4 t c = λ q k. absurd (not-suc-le-zero (rw (c .enum-told .given .1) at (q .within)))
+
+abbrev write-value-Inv-loop : write-value-lts.InvT-loop
+write-value-Inv-loop n text vars sizes a e d out₀ m s left₀ w₀ at₀ out left w at =
+    (length out ≡ length out₀)
+    × (Asked text vars n sizes (valueChoices (env text vars n) (span text a e)) d out₀ m → Writing text out₀ m out w left (ofParts listing (ofName listing (env text vars n)) (parts 0 (drop at s))) (getD (valueChoices (env text vars n) (span text a e)) d []))
+
+abbrev write-value-μ-loop : write-value-lts.MeasureT-loop
+write-value-μ-loop n text vars sizes a e d out₀ m s left₀ w₀ at₀ out left w at = length s - at
+
+write-value-span-requires : (t : ℕ) → write-value-lts.Need-span-requires (value-claims t) (write-value-at t) write-value.Post write-value-Inv-loop write-value-μ-loop
+write-value-span-requires t c κs = search needs
+
+write-value-loop-holds : (t : ℕ) → write-value-lts.Need-loop-holds (value-claims t) (write-value-at t) write-value.Post write-value-Inv-loop write-value-μ-loop
+write-value-loop-holds t c = (refl, λ q. rw (c .span .ensures) (writing-none q))
+
+write-value-part-at-requires : (t : ℕ) → write-value-lts.Need-part-at-requires (value-claims t) (write-value-at t) write-value.Post write-value-Inv-loop write-value-μ-loop
+write-value-part-at-requires t c κs = search needs
+
+write-value-part-size-requires : (t : ℕ) → write-value-lts.Need-part-size-requires (value-claims t) (write-value-at t) write-value.Post write-value-Inv-loop write-value-μ-loop
+write-value-part-size-requires t c κs = search needs
+
+write-value-low-requires : (t : ℕ) → write-value-lts.Need-low-requires (value-claims t) (write-value-at t) write-value.Post write-value-Inv-loop write-value-μ-loop
+write-value-low-requires t c κs = search needs
+
+write-value-write-part-requires : (t : ℕ) → write-value-lts.Need-write-part-requires (value-claims t) (write-value-at t) write-value.Post write-value-Inv-loop write-value-μ-loop
+write-value-write-part-requires t c κs = (omega (arith, c .before .before .before .before .before .before .before .before .before .pre .0), search needs)
+
+write-value-high-requires : (t : ℕ) → write-value-lts.Need-high-requires (value-claims t) (write-value-at t) write-value.Post write-value-Inv-loop write-value-μ-loop
+write-value-high-requires t c κs = search needs
+
+write-value-part-end-requires : (t : ℕ) → write-value-lts.Need-part-end-requires (value-claims t) (write-value-at t) write-value.Post write-value-Inv-loop write-value-μ-loop
+write-value-part-end-requires t c κs = search needs
+
+write-value-loop-less : (t : ℕ) → write-value-lts.Need-loop-less (value-claims t) (write-value-at t) write-value.Post write-value-Inv-loop write-value-μ-loop
+write-value-loop-less t c =
+    let c-span = c .before .before .before .before .before .before .before .before .before .before .before .span in
+    let c-loop = c .before .before .before .before .before .before .before .before .before .before .loop in
+    omega (arith, c .part-end .ensures, partEnd-le (now (c-span .result)) (c-loop .at), partEnd-more (now (c-span .result)) (c-loop .at) (search needs))
+
+write-value-loop-again : (t : ℕ) → write-value-lts.Need-loop-again (value-claims t) (write-value-at t) write-value.Post write-value-Inv-loop write-value-μ-loop
+write-value-loop-again t c =
+    let c-loop = c .before .before .before .before .before .before .before .before .before .before .loop in
+    let c-args = c .before .before .before .before .before .before .before .before .before .before .before .before .before .before .args in
+    let c-part-at = c .before .before .before .before .before .before .before .before .part-at in
+    let c-part-end = c .part-end in
+    let c-span = c .before .before .before .before .before .before .before .before .before .before .before .span in
+    let vs = env (now (c-args .text)) (now (c-args .vars)) (c-args .n) in
+    let p = seenPart (now (c-args .text)) (c-part-at .result) in (
+      search needs,
+      λ q.
+          writing-turn (c-loop .inv .1 q) (partChoices vs p) (ofParts listing (ofName listing vs) (parts 0 (drop (c-part-end .result) (now (c-span .result)))))
+          (size-count (partChoices vs p) (c .before .before .before .before .before .before .before .part-size .ensures (q .known)))
+          (parts-more (ofName listing vs) (now (c-span .result)) (c-loop .at) p (c-part-end .result) (search needs) (c-part-at .ensures .is ∙ ap (λ (l : List ℕ). partAt l (c-loop .at)) (sym (c-span .ensures))) (c-part-end .ensures))
+          (q .known) (q .short) (c .before .before .before .before .before .before .low .ensures) (c .before .high .ensures)
+          (λ asks. c .before .before .before .before .write-part .ensures asks (c-part-at .ensures .fits)),
+    )
+
+write-value-same-length : (t : ℕ) → write-value-lts.Need-same-length (value-claims t) (write-value-at t) write-value.Post write-value-Inv-loop write-value-μ-loop
+write-value-same-length t c = search needs
+
+write-value-returns : (t : ℕ) → write-value-lts.Need-returns (value-claims t) (write-value-at t) write-value.Post write-value-Inv-loop write-value-μ-loop
+write-value-returns t c =
+    let c-loop = c .before .loop in
+    let c-args = c .before .before .before .before .before .args in
+    λ q. writing-all (c-loop .inv .1 q) (parts-none (ofName listing (env (now (c-args .text)) (now (c-args .vars)) (c-args .n))) (now (c .before .before .span .result)) (c-loop .at) (search needs))
+
+pub +write-part+write-value-spec : {M : Type 1} → statement M
++write-part+write-value-spec = close μ-write-part μ-write-value (λ t. write-part-lts.spec (part-claims t)
     (write-part-at t)
     write-part.Post
     (write-part-enum-known-p t)
@@ -596,22 +259,7 @@ pub +write-part+write-value-spec : {M : Type 1} → statement M
     (write-part-same-length-2 t)
     (write-part-returns-3 t)
     (write-part-returns-4 t))
-    λ t. write-value-lts.spec (
-      span-reads.Asked,
-      span-reads.Learnt,
-      part-at-reads.Asked,
-      part-at-reads.Learnt,
-      part-size-reads.Asked,
-      part-size-reads.Learnt,
-      low-reads.Asked,
-      low-reads.Learnt,
-      write-part-below t,
-      write-part.Post,
-      high-reads.Asked,
-      high-reads.Learnt,
-      part-end-reads.Asked,
-      part-end-reads.Learnt,
-    )
+    λ t. write-value-lts.spec (value-claims t)
     (write-value-at t)
     write-value.Post
     write-value-Inv-loop

@@ -16,7 +16,7 @@ use Rattle.sizes.specs.Sizes.{itemChoices}
 use Rattle.sizes.proofs.Laws.{size-count}
 use Rattle.sizes.proofs.Loops.{items-more, items-none}
 use Rattle.expand.specs.Write.{Asked}
-use Rattle.expand.proofs.Laws.{wrote-written, Writing, writing-none, writing-asks, writing-more, writing-all}
+use Rattle.expand.proofs.Laws.{wrote-written, Writing, writing-none, writing-turn, writing-all}
 use Rattle.expand.proofs.write_pattern.Statement.{statement}
 use Rattle.expand.proofs.write_pattern.Tie as tie
 
@@ -66,19 +66,16 @@ loop-again c =
     let c-item-at = c .before .before .before .before .before .before .before .before .item-at in
     let c-item-end = c .item-end in
     let c-span = c .before .before .before .before .before .before .before .before .before .before .before .span in
-    let c-item-size = c .before .before .before .before .before .before .before .item-size in
-    let c-low = c .before .before .before .before .before .before .low in (
+    let vs = env (now (c-args .text)) (now (c-args .vars)) (c-args .n) in
+    let i = seenItem (now (c-args .text)) (c-item-at .result) in
+    let same : itemAt (span (now (c-args .text)) (c-args .a) (c-args .e)) (c-loop .at) ≡ i = sym (c-item-at .ensures) in (
       search needs,
       λ q.
-          let same : itemAt (span (now (c-args .text)) (c-args .a) (c-args .e)) (c-loop .at) ≡ (seenItem (now (c-args .text)) (c-item-at .result)) = sym (c-item-at .ensures) in
-          writing-more (c-loop .inv .1 q) (itemChoices (env (now (c-args .text)) (now (c-args .vars)) (c-args .n)) (seenItem (now (c-args .text)) (c-item-at .result)))
-          (ofItems listing (ofName listing (env (now (c-args .text)) (now (c-args .vars)) (c-args .n))) (items 0 (drop (c-item-end .result) (now (c-span .result))))) (size-count (itemChoices (env (now (c-args .text)) (now (c-args .vars)) (c-args .n)) (seenItem (now (c-args .text)) (c-item-at .result))) (c-item-size .ensures (q .known)))
-          (items-more (ofName listing (env (now (c-args .text)) (now (c-args .vars)) (c-args .n))) (now (c-span .result)) (c-loop .at) (seenItem (now (c-args .text)) (c-item-at .result)) (c-item-end .result) (search needs) (c-item-at .ensures ∙ ap (λ (l : List ℕ). itemAt l (c-loop .at)) (sym (c-span .ensures))) (c-item-end .ensures))
-          (c-low .ensures) (c .before .high .ensures)
-          (rw same at (c .before .before .before .before .write-item .ensures (rw same
-          (writing-asks (c-loop .inv .1 q) (itemChoices (env (now (c-args .text)) (now (c-args .vars)) (c-args .n)) (seenItem (now (c-args .text)) (c-item-at .result)))
-          (ofItems listing (ofName listing (env (now (c-args .text)) (now (c-args .vars)) (c-args .n))) (items 0 (drop (c-item-end .result) (now (c-span .result))))) (size-count (itemChoices (env (now (c-args .text)) (now (c-args .vars)) (c-args .n)) (seenItem (now (c-args .text)) (c-item-at .result))) (c-item-size .ensures (q .known)))
-          (items-more (ofName listing (env (now (c-args .text)) (now (c-args .vars)) (c-args .n))) (now (c-span .result)) (c-loop .at) (seenItem (now (c-args .text)) (c-item-at .result)) (c-item-end .result) (search needs) (c-item-at .ensures ∙ ap (λ (l : List ℕ). itemAt l (c-loop .at)) (sym (c-span .ensures))) (c-item-end .ensures)) (q .known) (q .short) (c-low .ensures))))),
+          writing-turn {ends = getD (expansions vs (span (now (c-args .text)) (c-args .a) (c-args .e))) (c-args .d) []} (c-loop .inv .1 q) (itemChoices vs i) (ofItems listing (ofName listing vs) (items 0 (drop (c-item-end .result) (now (c-span .result)))))
+          (size-count (itemChoices vs i) (c .before .before .before .before .before .before .before .item-size .ensures (q .known)))
+          (items-more (ofName listing vs) (now (c-span .result)) (c-loop .at) i (c-item-end .result) (search needs) (c-item-at .ensures ∙ ap (λ (l : List ℕ). itemAt l (c-loop .at)) (sym (c-span .ensures))) (c-item-end .ensures))
+          (q .known) (q .short) (c .before .before .before .before .before .before .low .ensures) (c .before .high .ensures)
+          (λ asks. rw same at (c .before .before .before .before .write-item .ensures (rw same asks))),
     )
 
 same-length : tie.Need-same-length Inv-loop μ-loop
@@ -88,8 +85,12 @@ returns : tie.Need-returns Inv-loop μ-loop
 returns c =
     let c-args = c .before .before .before .before .before .args in
     let c-loop = c .before .loop in
+    let vs = env (now (c-args .text)) (now (c-args .vars)) (c-args .n) in
+    let x = getD (expansions vs (span (now (c-args .text)) (c-args .a) (c-args .e))) (c-args .d) [] in
     λ k h g w.
-    wrote-written (now (c-args .text)) (writing-all (c-loop .inv .1 (record { known = k; short = h; small = g; within = w; room = omega arith })) (items-none (ofName listing (env (now (c-args .text)) (now (c-args .vars)) (c-args .n))) (now (c .before .before .span .result)) (c-loop .at) (search needs)))
+    wrote-written (now (c-args .text)) {xs = x}
+    (writing-all {ends = x} (c-loop .inv .1 (record { known = k; short = h; small = g; within = w; room = omega arith }))
+    (items-none (ofName listing vs) (now (c .before .before .span .result)) (c-loop .at) (search needs)))
 
 pub write-pattern-spec : {M : Type 1} → statement M
 write-pattern-spec =

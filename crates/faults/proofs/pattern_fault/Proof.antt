@@ -1,9 +1,7 @@
 use denote.Ref.{now}
-use mathlib.Core.Path.{sym, ap, _∙_}
 use Rattle.scan.specs.Bytes.{span}
 use Rattle.pattern.specs.Table.{env}
-use Rattle.faults.specs.Sized.{sizeFault}
-use Rattle.faults.proofs.Laws.{pattern-long, pattern-rest}
+use Rattle.faults.proofs.Laws.{pattern-too-long, pattern-sized, pattern-unset, pattern-bad}
 use borrow.Author.Needs.{needs}
 use Rattle.faults.proofs.pattern_fault.Statement.{statement}
 use Rattle.faults.proofs.pattern_fault.Tie as tie
@@ -13,8 +11,9 @@ span-requires c κs = search needs
 
 returns : tie.Need-returns
 returns c =
-    let c-args = c .before .before .before .args in
-    λ k. sym (pattern-long (env (now (c-args .text)) (now (c-args .vars)) (c-args .n)) (span (now (c-args .text)) (c-args .a) (c-args .e)) (rw (← c .before .span .ensures) (c .if1 .taken)))
+    let a = c .before .before .before .args in
+    let s = c .before .span in
+    λ k. pattern-too-long (env (now (a .text)) (now (a .vars)) (a .n)) (span (now (a .text)) (a .a) (a .e)) (now (s .result)) (s .ensures) (c .if1 .taken)
 
 pattern-form-requires : tie.Need-pattern-form-requires
 pattern-form-requires c κs = search needs
@@ -30,18 +29,22 @@ size-fault-requires c κs = search needs
 
 returns-2 : tie.Need-returns-2
 returns-2 c =
-    let c-args = c .before .before .before .before .before .before .before .before .before .args in
-    λ k. c .size-fault .ensures ∙ ap sizeFault (c .before .pattern-size .ensures k) ∙ sym (pattern-rest (env (now (c-args .text)) (now (c-args .vars)) (c-args .n)) (span (now (c-args .text)) (c-args .a) (c-args .e)) (rw (← c .before .before .before .before .before .before .before .span .ensures) (c .before .before .before .before .before .before .if1 .left)) ∙ rw (sym (c .before .before .before .before .before .pattern-form .ensures) ∙ c .before .before .before .before .if2 .taken, sym (c .before .before .before .pattern-names .ensures) ∙ c .before .before .if3 .taken))
+    let a = c .before .before .before .before .before .before .before .before .before .args in
+    let s = c .before .before .before .before .before .before .before .span in
+    λ k. pattern-sized (env (now (a .text)) (now (a .vars)) (a .n)) (span (now (a .text)) (a .a) (a .e)) (now (s .result)) (s .ensures) (c .before .before .before .before .before .before .if1 .left) (c .before .before .before .before .if2 .taken) (c .before .before .before .before .before .pattern-form .ensures) (c .before .before .if3 .taken) (c .before .before .before .pattern-names .ensures)
+    (c .before .pattern-size .ensures k) (c .size-fault .ensures)
 
 returns-3 : tie.Need-returns-3
 returns-3 c =
-    let c-args = c .before .before .before .before .before .before .before .args in
-    λ k. sym (pattern-rest (env (now (c-args .text)) (now (c-args .vars)) (c-args .n)) (span (now (c-args .text)) (c-args .a) (c-args .e)) (rw (← c .before .before .before .before .before .span .ensures) (c .before .before .before .before .if1 .left)) ∙ rw (sym (c .before .before .before .pattern-form .ensures) ∙ c .before .before .if2 .taken, sym (c .before .pattern-names .ensures) ∙ c .if3 .left))
+    let a = c .before .before .before .before .before .before .before .args in
+    let s = c .before .before .before .before .before .span in
+    λ k. pattern-unset (env (now (a .text)) (now (a .vars)) (a .n)) (span (now (a .text)) (a .a) (a .e)) (now (s .result)) (s .ensures) (c .before .before .before .before .if1 .left) (c .before .before .if2 .taken) (c .before .before .before .pattern-form .ensures) (c .if3 .left) (c .before .pattern-names .ensures)
 
 returns-4 : tie.Need-returns-4
 returns-4 c =
-    let c-args = c .before .before .before .before .before .args in
-    λ k. sym (pattern-rest (env (now (c-args .text)) (now (c-args .vars)) (c-args .n)) (span (now (c-args .text)) (c-args .a) (c-args .e)) (rw (← c .before .before .before .span .ensures) (c .before .before .if1 .left)) ∙ rw (sym (c .before .pattern-form .ensures) ∙ c .if2 .left))
+    let a = c .before .before .before .before .before .args in
+    let s = c .before .before .before .span in
+    λ k. pattern-bad (env (now (a .text)) (now (a .vars)) (a .n)) (span (now (a .text)) (a .a) (a .e)) (now (s .result)) (s .ensures) (c .before .before .if1 .left) (c .if2 .left) (c .before .pattern-form .ensures)
 
 pub pattern-fault-spec : {M : Type 1} → statement M
 pattern-fault-spec =

@@ -1,8 +1,7 @@
 use denote.Ref.{now}
-use mathlib.Core.Path.{sym, _∙_}
 use Rattle.scan.specs.Bytes.{span}
 use Rattle.pattern.specs.Table.{env}
-use Rattle.faults.proofs.Laws.{value-empty, value-long, value-rest}
+use Rattle.faults.proofs.Laws.{value-none, value-too-long, value-good, value-unset, value-bad}
 use borrow.Author.Needs.{needs}
 use Rattle.faults.proofs.value_fault.Statement.{statement}
 use Rattle.faults.proofs.value_fault.Tie as tie
@@ -12,14 +11,15 @@ span-requires c κs = search needs
 
 returns : tie.Need-returns
 returns c =
-    let c-args = c .before .before .before .args in
-    sym (value-empty (env (now (c-args .text)) (now (c-args .vars)) (c-args .n)) (span (now (c-args .text)) (c-args .a) (c-args .e)) (rw (← c .before .span .ensures) (c .if1 .taken)))
+    let a = c .before .before .before .args in
+    let s = c .before .span in
+    value-none (env (now (a .text)) (now (a .vars)) (a .n)) (span (now (a .text)) (a .a) (a .e)) (now (s .result)) (s .ensures) (c .if1 .taken)
 
 returns-2 : tie.Need-returns-2
 returns-2 c =
-    let c-args = c .before .before .before .before .args in
-    let c-span = c .before .before .span in
-    sym (value-long (env (now (c-args .text)) (now (c-args .vars)) (c-args .n)) (span (now (c-args .text)) (c-args .a) (c-args .e)) (rw (← c-span .ensures) (c .before .if1 .left)) (rw (← c-span .ensures) (c .if2 .taken)))
+    let a = c .before .before .before .before .args in
+    let s = c .before .before .span in
+    value-too-long (env (now (a .text)) (now (a .vars)) (a .n)) (span (now (a .text)) (a .a) (a .e)) (now (s .result)) (s .ensures) (c .before .if1 .left) (c .if2 .taken)
 
 value-form-requires : tie.Need-value-form-requires
 value-form-requires c κs = search needs
@@ -29,21 +29,21 @@ value-names-requires c κs = search needs
 
 returns-3 : tie.Need-returns-3
 returns-3 c =
-    let c-args = c .before .before .before .before .before .before .before .before .args in
-    let c-span = c .before .before .before .before .before .before .span in
-    sym (value-rest (env (now (c-args .text)) (now (c-args .vars)) (c-args .n)) (span (now (c-args .text)) (c-args .a) (c-args .e)) (rw (← c-span .ensures) (c .before .before .before .before .before .if1 .left)) (rw (← c-span .ensures) (c .before .before .before .before .if2 .left)) ∙ rw (sym (c .before .before .before .value-form .ensures) ∙ c .before .before .if3 .taken, sym (c .before .value-names .ensures) ∙ c .if4 .taken))
+    let a = c .before .before .before .before .before .before .before .before .args in
+    let s = c .before .before .before .before .before .before .span in
+    value-good (env (now (a .text)) (now (a .vars)) (a .n)) (span (now (a .text)) (a .a) (a .e)) (now (s .result)) (s .ensures) (c .before .before .before .before .before .if1 .left) (c .before .before .before .before .if2 .left) (c .before .before .if3 .taken) (c .before .before .before .value-form .ensures) (c .if4 .taken) (c .before .value-names .ensures)
 
 returns-4 : tie.Need-returns-4
 returns-4 c =
-    let c-args = c .before .before .before .before .before .before .before .before .args in
-    let c-span = c .before .before .before .before .before .before .span in
-    sym (value-rest (env (now (c-args .text)) (now (c-args .vars)) (c-args .n)) (span (now (c-args .text)) (c-args .a) (c-args .e)) (rw (← c-span .ensures) (c .before .before .before .before .before .if1 .left)) (rw (← c-span .ensures) (c .before .before .before .before .if2 .left)) ∙ rw (sym (c .before .before .before .value-form .ensures) ∙ c .before .before .if3 .taken, sym (c .before .value-names .ensures) ∙ c .if4 .left))
+    let a = c .before .before .before .before .before .before .before .before .args in
+    let s = c .before .before .before .before .before .before .span in
+    value-unset (env (now (a .text)) (now (a .vars)) (a .n)) (span (now (a .text)) (a .a) (a .e)) (now (s .result)) (s .ensures) (c .before .before .before .before .before .if1 .left) (c .before .before .before .before .if2 .left) (c .before .before .if3 .taken) (c .before .before .before .value-form .ensures) (c .if4 .left) (c .before .value-names .ensures)
 
 returns-5 : tie.Need-returns-5
 returns-5 c =
-    let c-args = c .before .before .before .before .before .before .args in
-    let c-span = c .before .before .before .before .span in
-    sym (value-rest (env (now (c-args .text)) (now (c-args .vars)) (c-args .n)) (span (now (c-args .text)) (c-args .a) (c-args .e)) (rw (← c-span .ensures) (c .before .before .before .if1 .left)) (rw (← c-span .ensures) (c .before .before .if2 .left)) ∙ rw (sym (c .before .value-form .ensures) ∙ c .if3 .left))
+    let a = c .before .before .before .before .before .before .args in
+    let s = c .before .before .before .before .span in
+    value-bad (env (now (a .text)) (now (a .vars)) (a .n)) (span (now (a .text)) (a .a) (a .e)) (now (s .result)) (s .ensures) (c .before .before .before .if1 .left) (c .before .before .if2 .left) (c .if3 .left) (c .before .value-form .ensures)
 
 pub value-fault-spec : {M : Type 1} → statement M
 value-fault-spec =

@@ -1,14 +1,14 @@
 use borrow.Author.Needs.{needs}
 use native.Mathlib.Omega.{arith}
 use denote.Ref.{now}
-use mathlib.Core.Path.{_≡_, sym, ap, _∙_}
+use mathlib.Core.Path.{_≡_, refl, sym, ap, _∙_}
 use Prim.Native.Nat.{ℕ, _-_}
 use mathlib.Core.List.{List}
 use lib.ListN.{length, drop}
 use Rattle.scan.specs.Bytes.{every, span}
-use Rattle.pattern.specs.Items.{items, before, goodItem, patternForm}
-use Rattle.pattern.specs.Places.{itemAt}
-use Rattle.form.proofs.Laws.{items-more, items-stop, items-all}
+use Rattle.pattern.specs.Items.{items, goodItem, patternForm}
+use Rattle.pattern.specs.Reads.{seenItem}
+use Rattle.form.proofs.Laws.{items-literals, items-more, items-stop, items-all}
 use Rattle.pattern.proofs.Laws.{itemEnd-more}
 use Rattle.form.proofs.pattern_form.Statement.{statement}
 use Rattle.form.proofs.pattern_form.Tie as tie
@@ -22,8 +22,14 @@ abbrev μ-loop : tie.MeasureT-loop
 span-requires : tie.Need-span-requires Inv-loop μ-loop
 span-requires c κs = search needs
 
+literal-end-requires : tie.Need-literal-end-requires Inv-loop μ-loop
+literal-end-requires c κs = search needs
+
 loop-holds : tie.Need-loop-holds Inv-loop μ-loop
-loop-holds c = ap (λ (l : List ℕ). every goodItem (items 0 l)) (c .span .ensures)
+loop-holds c =
+    let s = (c .before .span) in
+    sym (items-literals goodItem (λ b. refl) (now (s .result)) 0 (c .literal-end .result) (c .literal-end .ensures))
+    ∙ ap (λ (t : List ℕ). every goodItem (items 0 t)) (s .ensures)
 
 item-at-requires : tie.Need-item-at-requires Inv-loop μ-loop
 item-at-requires c κs = search needs
@@ -34,19 +40,38 @@ good-item-requires c κs = search needs
 item-end-requires : tie.Need-item-end-requires Inv-loop μ-loop
 item-end-requires c κs = search needs
 
+literal-end-requires-2 : tie.Need-literal-end-requires-2 Inv-loop μ-loop
+literal-end-requires-2 c κs = search needs
+
 loop-less : tie.Need-loop-less Inv-loop μ-loop
-loop-less c = omega (arith, c .item-end .ensures, itemEnd-more (now (c .before .before .before .before .before .before .span .result)) (c .before .before .before .before .before .loop .i) (omega arith))
+loop-less c =
+    let s = (c .before .before .before .before .before .before .before .before .span) in
+    let l = (c .before .before .before .before .before .before .loop) in
+    omega (arith, c .literal-end2 .ensures, c .before .item-end .ensures, itemEnd-more (now (s .result)) (l .i) (omega arith))
 
 loop-again : tie.Need-loop-again Inv-loop μ-loop
-loop-again c = sym (items-more goodItem (now (c .before .before .before .before .before .before .span .result)) (c .before .before .before .before .before .loop .i) (c .item-end .result) (omega arith) (c .item-end .ensures) (ap goodItem (ap (λ (l : List ℕ). itemAt l (c .before .before .before .before .before .loop .i)) (c .before .before .before .before .before .before .span .ensures) ∙ sym (c .before .before .before .item-at .ensures)) ∙ sym (c .before .before .good-item .ensures) ∙ c .before .if1 .taken)) ∙ c .before .before .before .before .before .loop .inv
+loop-again c =
+    let a = (c .before .before .before .before .before .before .before .before .before .before .args) in
+    let s = (c .before .before .before .before .before .before .before .before .span) in
+    let l = (c .before .before .before .before .before .before .loop) in
+    items-more goodItem (λ b. refl) (now (s .result)) (span (now (a .text)) (a .a) (a .e)) (s .ensures) (l .i) (seenItem (now (a .text)) (c .before .before .before .before .item-at .result)) (c .before .before .before .before .item-at .ensures)
+    (c .before .before .before .good-item .ensures) (omega arith) (l .inv) (c .before .before .if1 .taken) (c .before .item-end .ensures) (c .literal-end2 .ensures)
 
 returns : tie.Need-returns Inv-loop μ-loop
 unfolding patternForm
-returns c = sym (items-stop goodItem (now (c .before .before .before .before .before .span .result)) (c .before .before .before .before .loop .i) (omega arith) (ap goodItem (ap (λ (l : List ℕ). itemAt l (c .before .before .before .before .loop .i)) (c .before .before .before .before .before .span .ensures) ∙ sym (c .before .before .item-at .ensures)) ∙ sym (c .before .good-item .ensures) ∙ c .if1 .left)) ∙ c .before .before .before .before .loop .inv
+returns c =
+    let a = (c .before .before .before .before .before .before .before .before .args) in
+    let s = (c .before .before .before .before .before .before .span) in
+    let l = (c .before .before .before .before .loop) in
+    items-stop goodItem (λ b. refl) (now (s .result)) (span (now (a .text)) (a .a) (a .e)) (s .ensures) (l .i) (seenItem (now (a .text)) (c .before .before .item-at .result)) (c .before .before .item-at .ensures)
+    (c .before .good-item .ensures) (omega arith) (l .inv) (c .if1 .left)
 
 returns-2 : tie.Need-returns-2 Inv-loop μ-loop
 unfolding patternForm
-returns-2 c = sym (items-all goodItem (now (c .before .before .span .result)) (c .before .loop .i) (omega arith)) ∙ c .before .loop .inv
+returns-2 c =
+    let s = (c .before .before .before .span) in
+    let l = (c .before .loop) in
+    items-all goodItem (λ b. refl) (now (s .result)) (l .i) (omega arith) (l .inv)
 
 pub pattern-form-spec : {M : Type 1} → statement M
 pattern-form-spec =
@@ -55,10 +80,12 @@ pattern-form-spec =
     Inv-loop
     μ-loop
     span-requires
+    literal-end-requires
     loop-holds
     item-at-requires
     good-item-requires
     item-end-requires
+    literal-end-requires-2
     loop-less
     loop-again
     returns

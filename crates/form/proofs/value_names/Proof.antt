@@ -1,17 +1,17 @@
 use borrow.Author.Needs.{needs}
 use native.Mathlib.Omega.{arith}
 use denote.Ref.{now}
-use mathlib.Core.Path.{_≡_, sym, ap, _∙_}
+use mathlib.Core.Path.{_≡_, refl, sym, ap, _∙_}
 use Prim.Native.Nat.{ℕ, _-_}
 use mathlib.Core.List.{List}
 use lib.ListN.{length, drop}
 use Rattle.scan.specs.Bytes.{every, span}
 use Rattle.pattern.specs.Pieces.{parts}
-use Rattle.pattern.specs.Items.{before, namesPart, valueNames}
-use Rattle.pattern.specs.Places.{partAt}
+use Rattle.pattern.specs.Items.{namesPart, valueNames}
+use Rattle.pattern.specs.Reads.{seenPart}
 use Rattle.pattern.specs.Expansions.{isSet}
 use Rattle.pattern.specs.Table.{env}
-use Rattle.form.proofs.Laws.{parts-more, parts-stop, parts-all}
+use Rattle.form.proofs.Laws.{parts-literals, parts-more, parts-stop, parts-all}
 use Rattle.pattern.proofs.Laws.{partEnd-more}
 use Rattle.form.proofs.value_names.Statement.{statement}
 use Rattle.form.proofs.value_names.Tie as tie
@@ -25,8 +25,15 @@ abbrev μ-loop : tie.MeasureT-loop
 span-requires : tie.Need-span-requires Inv-loop μ-loop
 span-requires c κs = search needs
 
+literal-end-requires : tie.Need-literal-end-requires Inv-loop μ-loop
+literal-end-requires c κs = search needs
+
 loop-holds : tie.Need-loop-holds Inv-loop μ-loop
-loop-holds c = ap (λ (l : List ℕ). every (namesPart (isSet (env (now (c .before .before .args .text)) (now (c .before .before .args .vars)) (c .before .before .args .n)))) (parts 0 l)) (c .span .ensures)
+loop-holds c =
+    let a = (c .before .before .before .args) in
+    let s = (c .before .span) in
+    sym (parts-literals (namesPart (isSet (env (now (a .text)) (now (a .vars)) (a .n)))) (λ b. refl) (now (s .result)) 0 (c .literal-end .result) (c .literal-end .ensures))
+    ∙ ap (λ (t : List ℕ). every (namesPart (isSet (env (now (a .text)) (now (a .vars)) (a .n)))) (parts 0 t)) (s .ensures)
 
 part-at-requires : tie.Need-part-at-requires Inv-loop μ-loop
 part-at-requires c κs = search needs
@@ -37,19 +44,39 @@ known-part-requires c κs = search needs
 part-end-requires : tie.Need-part-end-requires Inv-loop μ-loop
 part-end-requires c κs = search needs
 
+literal-end-requires-2 : tie.Need-literal-end-requires-2 Inv-loop μ-loop
+literal-end-requires-2 c κs = search needs
+
 loop-less : tie.Need-loop-less Inv-loop μ-loop
-loop-less c = omega (arith, c .part-end .ensures, partEnd-more (now (c .before .before .before .before .before .before .span .result)) (c .before .before .before .before .before .loop .i) (omega arith))
+loop-less c =
+    let s = (c .before .before .before .before .before .before .before .before .span) in
+    let l = (c .before .before .before .before .before .before .loop) in
+    omega (arith, c .literal-end2 .ensures, c .before .part-end .ensures, partEnd-more (now (s .result)) (l .i) (omega arith))
 
 loop-again : tie.Need-loop-again Inv-loop μ-loop
-loop-again c = sym (parts-more (namesPart (isSet (env (now (c .before .before .before .before .before .before .before .before .args .text)) (now (c .before .before .before .before .before .before .before .before .args .vars)) (c .before .before .before .before .before .before .before .before .args .n)))) (now (c .before .before .before .before .before .before .span .result)) (c .before .before .before .before .before .loop .i) (c .part-end .result) (omega arith) (c .part-end .ensures) (ap (namesPart (isSet (env (now (c .before .before .before .before .before .before .before .before .args .text)) (now (c .before .before .before .before .before .before .before .before .args .vars)) (c .before .before .before .before .before .before .before .before .args .n)))) (ap (λ (l : List ℕ). partAt l (c .before .before .before .before .before .loop .i)) (c .before .before .before .before .before .before .span .ensures) ∙ sym (c .before .before .before .part-at .ensures .is)) ∙ sym (c .before .before .known-part .ensures) ∙ c .before .if1 .taken)) ∙ c .before .before .before .before .before .loop .inv
+loop-again c =
+    let a = (c .before .before .before .before .before .before .before .before .before .before .args) in
+    let s = (c .before .before .before .before .before .before .before .before .span) in
+    let l = (c .before .before .before .before .before .before .loop) in
+    parts-more (namesPart (isSet (env (now (a .text)) (now (a .vars)) (a .n)))) (λ b. refl) (now (s .result)) (span (now (a .text)) (a .a) (a .e)) (s .ensures) (l .i) (seenPart (now (a .text)) (c .before .before .before .before .part-at .result)) (c .before .before .before .before .part-at .ensures .is)
+    (c .before .before .before .known-part .ensures) (omega arith) (l .inv) (c .before .before .if1 .taken) (c .before .part-end .ensures) (c .literal-end2 .ensures)
 
 returns : tie.Need-returns Inv-loop μ-loop
 unfolding valueNames
-returns c = sym (parts-stop (namesPart (isSet (env (now (c .before .before .before .before .before .before .before .args .text)) (now (c .before .before .before .before .before .before .before .args .vars)) (c .before .before .before .before .before .before .before .args .n)))) (now (c .before .before .before .before .before .span .result)) (c .before .before .before .before .loop .i) (omega arith) (ap (namesPart (isSet (env (now (c .before .before .before .before .before .before .before .args .text)) (now (c .before .before .before .before .before .before .before .args .vars)) (c .before .before .before .before .before .before .before .args .n)))) (ap (λ (l : List ℕ). partAt l (c .before .before .before .before .loop .i)) (c .before .before .before .before .before .span .ensures) ∙ sym (c .before .before .part-at .ensures .is)) ∙ sym (c .before .known-part .ensures) ∙ c .if1 .left)) ∙ c .before .before .before .before .loop .inv
+returns c =
+    let a = (c .before .before .before .before .before .before .before .before .args) in
+    let s = (c .before .before .before .before .before .before .span) in
+    let l = (c .before .before .before .before .loop) in
+    parts-stop (namesPart (isSet (env (now (a .text)) (now (a .vars)) (a .n)))) (λ b. refl) (now (s .result)) (span (now (a .text)) (a .a) (a .e)) (s .ensures) (l .i) (seenPart (now (a .text)) (c .before .before .part-at .result)) (c .before .before .part-at .ensures .is)
+    (c .before .known-part .ensures) (omega arith) (l .inv) (c .if1 .left)
 
 returns-2 : tie.Need-returns-2 Inv-loop μ-loop
 unfolding valueNames
-returns-2 c = sym (parts-all (namesPart (isSet (env (now (c .before .before .before .before .args .text)) (now (c .before .before .before .before .args .vars)) (c .before .before .before .before .args .n)))) (now (c .before .before .span .result)) (c .before .loop .i) (omega arith)) ∙ c .before .loop .inv
+returns-2 c =
+    let a = (c .before .before .before .before .before .args) in
+    let s = (c .before .before .before .span) in
+    let l = (c .before .loop) in
+    parts-all (namesPart (isSet (env (now (a .text)) (now (a .vars)) (a .n)))) (λ b. refl) (now (s .result)) (l .i) (omega arith) (l .inv)
 
 pub value-names-spec : {M : Type 1} → statement M
 value-names-spec =
@@ -58,10 +85,12 @@ value-names-spec =
     Inv-loop
     μ-loop
     span-requires
+    literal-end-requires
     loop-holds
     part-at-requires
     known-part-requires
     part-end-requires
+    literal-end-requires-2
     loop-less
     loop-again
     returns

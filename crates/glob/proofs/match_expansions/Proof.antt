@@ -15,13 +15,13 @@ use Rattle.glob.proofs.match_expansions.Statement.{statement}
 use Rattle.glob.proofs.match_expansions.Tie as tie
 
 abbrev Inv-loop : tie.InvT-loop
-Inv-loop text vars n sizes a e path count some₀ d₀ some d =
+Inv-loop text vars n sizes a e path count codes₀ some₀ d₀ codes some d =
     (d ≤ count)
     × (Known text vars n sizes → Within text (expansions (env text vars n) (span text a e)) path →
     Tried path (expansions (env text vars n) (span text a e)) d some)
 
 abbrev μ-loop : tie.MeasureT-loop
-μ-loop text vars n sizes a e path count some₀ d₀ some d = count - d
+μ-loop text vars n sizes a e path count codes₀ some₀ d₀ codes some d = count - d
 
 pattern-size-requires : tie.Need-pattern-size-requires Inv-loop μ-loop
 pattern-size-requires c κs = search needs
@@ -38,12 +38,12 @@ match-expansion-requires c κs = search needs
 
 returns : tie.Need-returns Inv-loop μ-loop
 returns c =
-    let a = (c .before .before .before .before .before .before .before .args) in
+    let a = (c .before .before .before .before .before .before .before .before .args) in
     let vs = env (now (a .text)) (now (a .vars)) (a .n) in
     let s = span (now (a .text)) (a .a) (a .e) in
-    λ k w. tried-found (now (a .path)) (expansions vs s) (c .before .before .before .loop .inv .1 k w)
-    (omega (arith, size-count (expansions vs s) (c .before .before .before .before .pattern-size .ensures k), w .few))
-    (c .before .match-expansion .ensures k w (omega (arith, size-count (expansions vs s) (c .before .before .before .before .pattern-size .ensures k), w .few))) (c .if1 .taken) ∙ by-all vs s (now (a .path))
+    λ k w.
+    let few : c .before .before .before .before .loop .d < length (expansions vs s) = omega (arith, size-count (expansions vs s) (c .before .before .before .before .before .pattern-size .ensures k), w .few) in
+    tried-found (now (a .path)) (expansions vs s) (c .before .before .before .before .loop .inv .1 k w) few (c .before .match-expansion .ensures k w few) (c .if1 .taken) ∙ by-all vs s (now (a .path))
 
 add-d : tie.Need-add-d Inv-loop μ-loop
 add-d c = search needs
@@ -53,13 +53,13 @@ loop-less c = search needs
 
 loop-again : tie.Need-loop-again Inv-loop μ-loop
 loop-again c =
-    let a = (c .before .before .before .before .before .before .before .before .args) in
+    let a = (c .before .before .before .before .before .before .before .before .before .args) in
     let vs = env (now (a .text)) (now (a .vars)) (a .n) in
     let s = span (now (a .text)) (a .a) (a .e) in (
       omega arith,
-      λ k w. tried-more (now (a .path)) (expansions vs s) (c .before .before .before .before .loop .inv .1 k w)
-          (omega (arith, size-count (expansions vs s) (c .before .before .before .before .before .pattern-size .ensures k), w .few))
-          (c .before .before .match-expansion .ensures k w (omega (arith, size-count (expansions vs s) (c .before .before .before .before .before .pattern-size .ensures k), w .few))) (c .before .if1 .left),
+      λ k w.
+          let few : c .before .before .before .before .before .loop .d < length (expansions vs s) = omega (arith, size-count (expansions vs s) (c .before .before .before .before .before .before .pattern-size .ensures k), w .few) in
+          tried-more (now (a .path)) (expansions vs s) (c .before .before .before .before .before .loop .inv .1 k w) few (c .before .before .match-expansion .ensures k w few) (c .before .if1 .left),
     )
 
 returns-2 : tie.Need-returns-2 Inv-loop μ-loop
@@ -67,8 +67,7 @@ returns-2 c =
     let a = (c .before .before .before .before .before .args) in
     let vs = env (now (a .text)) (now (a .vars)) (a .n) in
     let s = span (now (a .text)) (a .a) (a .e) in
-    λ k w. tried-all (now (a .path)) (expansions vs s) (c .before .loop .inv .1 k w)
-    (omega (arith, size-count (expansions vs s) (c .before .before .pattern-size .ensures k), w .few)) ∙ by-all vs s (now (a .path))
+    λ k w. tried-all (now (a .path)) (expansions vs s) (c .before .loop .inv .1 k w) (omega (arith, size-count (expansions vs s) (c .before .before .pattern-size .ensures k), w .few)) ∙ by-all vs s (now (a .path))
 
 pub match-expansions-spec : {M : Type 1} → statement M
 match-expansions-spec =

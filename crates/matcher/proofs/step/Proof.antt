@@ -9,7 +9,7 @@ use lib.ListN.{length-set}
 use Rattle.pattern.specs.Codes.{decode}
 use Rattle.matcher.specs.Match.{someUpTo}
 use Rattle.matcher.specs.Walk.{after, repeatsOf}
-use Rattle.matcher.proofs.Laws.{after-zero, mark-right, more-marks, more-alive}
+use Rattle.matcher.proofs.Laws.{first-right, mark-right, more-marks, more-alive}
 use Rattle.matcher.proofs.step.Statement.{statement}
 use Rattle.matcher.proofs.step.Tie as tie
 
@@ -41,7 +41,7 @@ loop-holds c =
     let a = (c .before .before .before .before .args) in
     let p = decode (now (a .text)) (a .code) in
     let many = c .before .repeats .ensures (now (a .text)) in
-    let m : c .mark .result ≡ after p (now (a .path)) (a .t1) 0 = c .mark .ensures ∙ rw many (sym (after-zero p (now (a .path)) (a .t1))) in
+    let m : c .mark .result ≡ after p (now (a .path)) (a .t1) 0 = first-right p (now (a .path)) (a .t1) (c .before .repeats .result) (c .mark .result) many (c .mark .ensures) in
     (search needs, refl, many, λ k h. let q : k ≡ 0 = omega arith in rw q m, m)
 
 shared-slice-read-takes : tie.Need-shared-slice-read-takes Inv-loop μ-loop
@@ -85,8 +85,8 @@ loop-again c =
     let p = decode (now (a .text)) (a .code) in
     let n : length (l .next) ≡ 4096 = l .inv .1 in
     let m : c .mark2 .result ≡ after p s (a .t1) (l .i + 1) =
-    mark-right p s (a .t1) (l .i) (omega arith) (l .next) (c .mark2 .result) (l .inv .3 (l .i) (omega arith))
-    (c .mark2 .ensures ∙ rw (l .inv .2, c .before .takes .ensures)) in (
+    mark-right p s (a .t1) (l .i) (omega arith) (l .next) (c .before .before .before .before .before .before .repeats .result) (c .before .takes .result) (c .mark2 .result) (l .inv .2) (c .before .takes .ensures)
+    (l .inv .3 (l .i) (omega arith)) (c .mark2 .ensures) in (
       omega arith,
       simp length-set n,
       l .inv .2,

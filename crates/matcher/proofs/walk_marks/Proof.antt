@@ -56,9 +56,7 @@ returns : tie.Need-returns Inv-loop μ-loop
 returns c =
     let a = (c .before .before .before .before .before .before .before .before .args) in
     let l = (c .before .before .before .before .loop) in
-    sym
-    (dead (decode (now (a .text))) (now (a .codes)) (l .k) (omega arith) (now (a .path)) (l .marks) (l .inv .1)
-    (sym (c .before .step .ensures .1) ∙ c .if1 .left))
+    dead (decode (now (a .text))) (now (a .codes)) (l .k) (omega arith) (now (a .path)) (l .marks) (c .before .step .result .alive) (l .inv .1) (c .before .step .ensures .1) (c .if1 .left)
 
 array-read-result : tie.Need-array-read-result Inv-loop μ-loop
 array-read-result c = search needs

@@ -1,7 +1,7 @@
 use denote.Ref.{now}
-use mathlib.Core.Path.{sym, ap, _∙_}
+use mathlib.Core.Path.{sym, _∙_}
 use Rattle.scan.specs.Bytes.{span}
-use Rattle.preamble.specs.Places.{assignedOf, held}
+use Rattle.pattern.specs.Table.{env}
 use Rattle.preamble.proofs.Laws.{name-good, name-refused}
 use borrow.Author.Needs.{needs}
 use Rattle.preamble.proofs.after_name.Statement.{statement}
@@ -13,8 +13,8 @@ add-in-line-at c = search needs
 in-line-at-requires : tie.Need-in-line-at-requires
 in-line-at-requires c κs = search needs
 
-add-t11 : tie.Need-add-t11
-add-t11 c = search needs
+add-t12 : tie.Need-add-t12
+add-t12 c = search needs
 
 operator-at-requires : tie.Need-operator-at-requires
 operator-at-requires c κs = search needs
@@ -32,22 +32,20 @@ refused-at-requires : tie.Need-refused-at-requires
 refused-at-requires c κs = search needs
 
 returns : tie.Need-returns
-unfolding assignedOf
 returns c =
-    let a = (c .before .before .before .before .before .before .before .args) in
-    let s = now (a .text) in
-    let vs = held s (a .vars) in
-    let n = span s (a .start) (a .end) in
-    c .after-operator .ensures ∙ sym (ap (assignedOf vs) (name-good vs s n (a .start) (a .end) (c .before .before .before .before .before .in-line-at .result) (c .before .before .before .before .operator-at .result) (c .before .before .before .before .before .in-line-at .ensures) (c .before .before .before .before .operator-at .ensures) (c .before .before .o .given .0 .0) (c .before .before .o .given .0 .1 .0) (c .before .before .o .given .1)))
+    let c-o = c .before .before .before .o in
+    let c-operator-at = c .before .before .before .before .before .operator-at in
+    let c-in-line-at = c .before .before .before .before .before .before .in-line-at in
+    let c-args = c .before .before .before .before .before .before .before .before .args in
+    rw (name-good (env (now (c-args .text)) (now (c-args .vars)) (c-args .n)) (now (c-args .text)) (span (now (c-args .text)) (c-args .start) (c-args .end)) (c-args .start) (c-args .end) (c-in-line-at .result) (c-operator-at .result) (c-in-line-at .ensures) (c-operator-at .ensures) (c-o .given .0 .0) (c-o .given .0 .1 .0) (c-o .given .1)) (c .after-operator .ensures)
 
 returns-2 : tie.Need-returns-2
-unfolding assignedOf
 returns-2 c =
-    let a = (c .before .before .before .before .before .before .before .before .args) in
-    let s = now (a .text) in
-    let vs = held s (a .vars) in
-    let n = span s (a .start) (a .end) in
-    c .refused-at .ensures s ∙ sym (ap (assignedOf vs) (name-refused vs s n (a .start) (a .end) (c .before .before .before .before .before .before .in-line-at .result) (c .before .before .before .before .before .operator-at .result) (c .before .before .before .before .before .before .in-line-at .ensures) (c .before .before .before .before .before .operator-at .ensures) (c .before .before .before .o2 .given .0 .0) (c .before .before .before .o2 .given .1)))
+    let c-o2 = c .before .before .before .o2 in
+    let c-operator-at = c .before .before .before .before .before .operator-at in
+    let c-in-line-at = c .before .before .before .before .before .before .in-line-at in
+    let c-args = c .before .before .before .before .before .before .before .before .args in
+    c .refused-at .ensures _ _ ∙ sym (name-refused (env (now (c-args .text)) (now (c-args .vars)) (c-args .n)) (now (c-args .text)) (span (now (c-args .text)) (c-args .start) (c-args .end)) (c-args .start) (c-args .end) (c-in-line-at .result) (c-operator-at .result) (c-in-line-at .ensures) (c-operator-at .ensures) (c-o2 .given .0 .0) (c-o2 .given .1))
 
 pub after-name-spec : {M : Type 1} → statement M
 after-name-spec =
@@ -55,7 +53,7 @@ after-name-spec =
     (tie.spec
     add-in-line-at
     in-line-at-requires
-    add-t11
+    add-t12
     operator-at-requires
     enum-known-o
     after-operator-requires

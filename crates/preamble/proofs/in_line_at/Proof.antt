@@ -6,7 +6,7 @@ use mathlib.Core.Path.{_≡_}
 use lib.ListN.{length, drop}
 use Rattle.scan.specs.Bytes.{run}
 use Rattle.scan.proofs.Laws.{run-more, run-stop, run-end}
-use Rattle.text.specs.Tokens.{inLine}
+use Rattle.blanks.specs.Blanks.{inLine}
 use Rattle.preamble.proofs.in_line_at.Statement.{statement}
 use Rattle.preamble.proofs.in_line_at.Tie as tie
 

@@ -1,7 +1,7 @@
 use denote.Ref.{now}
 use mathlib.Core.Path.{refl, sym, _∙_}
 use Rattle.scan.specs.Bytes.{bytes}
-use Rattle.text.proofs.Laws.{begins-lt}
+use Rattle.scan.proofs.Laws.{begins-lt}
 use Rattle.preamble.specs.Preamble.{operatorFrom}
 use Rattle.preamble.specs.Places.{seenOperator}
 use Rattle.preamble.proofs.Laws.{two-fit, no-operator}

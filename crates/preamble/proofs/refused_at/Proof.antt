@@ -1,3 +1,4 @@
+use borrow.Author.Needs.{needs}
 use mathlib.Core.Path.{refl}
 use Rattle.preamble.specs.Places.{seenPreamble}
 use Rattle.preamble.proofs.refused_at.Statement.{statement}
@@ -5,7 +6,7 @@ use Rattle.preamble.proofs.refused_at.Tie as tie
 
 returns : tie.Need-returns
 unfolding seenPreamble
-returns c = λ s. refl
+returns c = λ s t. refl
 
 pub refused-at-spec : {M : Type 1} → statement M
 refused-at-spec = tie.close (tie.spec returns)

@@ -1,4 +1,4 @@
-use Rattle.text.specs.Places.{seen}
+use Rattle.tokens.specs.Places.{seen}
 use borrow.Author.Needs.{needs}
 use Rattle.profile.proofs.ends_at.Statement.{statement}
 use Rattle.profile.proofs.ends_at.Tie as tie

@@ -1,10 +1,11 @@
 use denote.Ref.{now}
-use mathlib.Core.Path.{sym, ap, _∙_}
+use mathlib.Core.Path.{sym}
+use native.Mathlib.Nat.{min-eq-right}
 use lib.Dec.{leb}
 use Rattle.pattern.specs.Table.{env}
-use Rattle.rules.specs.Places.{seenRules}
-use Rattle.profile.specs.Places.{namesOf, seenHead, seenProfile}
-use Rattle.profile.proofs.Laws.{profile-good, profile-refused, profile-rules-refused}
+use Rattle.heads.specs.Places.{namesOf}
+use Rattle.profile.specs.Places.{seenProfile}
+use Rattle.profile.proofs.Laws.{by-head-refused, by-rules-good, by-rules-refused}
 use borrow.Author.Needs.{needs}
 use Rattle.profile.proofs.profile_at.Statement.{statement}
 use Rattle.profile.proofs.profile_at.Tie as tie
@@ -28,28 +29,41 @@ enum-known-count : tie.Need-enum-known-count
 enum-known-count c = search needs
 
 returns : tie.Need-returns
-unfolding seenHead seenProfile seenRules
+unfolding seenProfile
 returns c =
-    let s = now (c .before .before .before .before .before .args .text) in
-    let vs = env s (now (c .before .before .before .before .before .args .vars)) (c .before .before .before .before .before .args .n) in
-    let used = namesOf s (now (c .before .before .before .before .before .args .table)) (c .before .before .before .before .before .args .k) in
-    sym (profile-refused (leb 32 (c .before .before .before .before .before .args .k)) (c .before .before .before .before .before .args .left) used vs s (c .before .before .before .before .before .args .at .0) (sym (c .before .before .before .head-at .ensures) ∙ ap (seenHead s) (c .before .stop .given .1)))
+    let c-head-at = c .before .before .before .head-at in
+    let c-args = c .before .before .before .before .before .args in
+    let c-pre = c .before .before .before .before .before .pre in
+    let s = now (c-args .text) in
+    let vs = env s (now (c-args .vars)) (c-args .n) in
+    let used = namesOf s (now (c-args .table)) (c-args .k) in
+    sym (by-head-refused (leb 32 (c-args .k)) (c-args .left) used vs s (c-args .at .0) (c-head-at .result) (rw (min-eq-right (c-pre .0)) at (c-head-at .ensures)) (c .before .stop .given .0 .0) (c .before .stop .given .1))
 
 returns-2 : tie.Need-returns-2
-unfolding seenHead seenProfile seenRules
+unfolding seenProfile
 returns-2 c =
-    let s = now (c .before .before .before .before .before .before .before .before .before .args .text) in
-    let vs = env s (now (c .before .before .before .before .before .before .before .before .before .args .vars)) (c .before .before .before .before .before .before .before .before .before .args .n) in
-    let used = namesOf s (now (c .before .before .before .before .before .before .before .before .before .args .table)) (c .before .before .before .before .before .before .before .before .before .args .k) in
-    sym (profile-rules-refused (leb 32 (c .before .before .before .before .before .before .before .before .before .args .k)) (c .before .before .before .before .before .before .before .before .before .args .left) used vs s (c .before .before .before .before .before .before .before .before .before .args .at .0) _ (sym (c .before .before .before .before .before .before .before .head-at .ensures) ∙ ap (seenHead s) (c .before .before .before .before .before .name .given .1)) (sym (c .before .before .before .rules-at .ensures (c .before .before .before .before .before .before .before .before .before .pre .1)) ∙ ap seenRules (c .before .stop2 .given .1)))
+    let c-rules-at = c .before .before .before .rules-at in
+    let c-name = c .before .before .before .before .before .name in
+    let c-head-at = c .before .before .before .before .before .before .before .head-at in
+    let c-args = c .before .before .before .before .before .before .before .before .before .args in
+    let c-pre = c .before .before .before .before .before .before .before .before .before .pre in
+    let s = now (c-args .text) in
+    let vs = env s (now (c-args .vars)) (c-args .n) in
+    let used = namesOf s (now (c-args .table)) (c-args .k) in
+    sym (by-rules-refused (leb 32 (c-args .k)) (c-args .left) used vs s (c-args .at .0) (c-head-at .result) (rw (min-eq-right (c-pre .0)) at (c-head-at .ensures)) (c-name .given .0 .0) (c-name .given .0 .1 .0) (c-name .given .1) (c-rules-at .result) (c-rules-at .ensures (c-pre .1)) (c .before .stop2 .given .0 .0) (c .before .stop2 .given .1))
 
 returns-3 : tie.Need-returns-3
-unfolding seenHead seenProfile seenRules
+unfolding seenProfile
 returns-3 c =
-    let s = now (c .before .before .before .before .before .before .before .before .before .args .text) in
-    let vs = env s (now (c .before .before .before .before .before .before .before .before .before .args .vars)) (c .before .before .before .before .before .before .before .before .before .args .n) in
-    let used = namesOf s (now (c .before .before .before .before .before .before .before .before .before .args .table)) (c .before .before .before .before .before .before .before .before .before .args .k) in
-    sym (profile-good (leb 32 (c .before .before .before .before .before .before .before .before .before .args .k)) (c .before .before .before .before .before .before .before .before .before .args .left) used vs s (c .before .before .before .before .before .before .before .before .before .args .at .0) _ (sym (c .before .before .before .before .before .before .before .head-at .ensures) ∙ ap (seenHead s) (c .before .before .before .before .before .name .given .1)) (sym (c .before .before .before .rules-at .ensures (c .before .before .before .before .before .before .before .before .before .pre .1)) ∙ ap seenRules (c .before .count .given .1)))
+    let c-rules-at = c .before .before .before .rules-at in
+    let c-name = c .before .before .before .before .before .name in
+    let c-head-at = c .before .before .before .before .before .before .before .head-at in
+    let c-args = c .before .before .before .before .before .before .before .before .before .args in
+    let c-pre = c .before .before .before .before .before .before .before .before .before .pre in
+    let s = now (c-args .text) in
+    let vs = env s (now (c-args .vars)) (c-args .n) in
+    let used = namesOf s (now (c-args .table)) (c-args .k) in
+    sym (by-rules-good (leb 32 (c-args .k)) (c-args .left) used vs s (c-args .at .0) (c-head-at .result) (rw (min-eq-right (c-pre .0)) at (c-head-at .ensures)) (c-name .given .0 .0) (c-name .given .0 .1 .0) (c-name .given .1) (c-rules-at .result) (c-rules-at .ensures (c-pre .1)) (c .before .count .given .0 .0) (c .before .count .given .0 .1 .0) (c .before .count .given .1))
 
 pub profile-at-spec : {M : Type 1} → statement M
 profile-at-spec =

@@ -1,6 +1,5 @@
 use denote.Ref.{now}
 use native.Mathlib.Omega.{arith}
-use mathlib.Core.Path.{sym, ap, _∙_}
 use Rattle.preamble.proofs.Laws.{seen-read, seen-refused}
 use Rattle.profile.specs.Places.{profilesOf, seenProfiles}
 use borrow.Author.Needs.{needs}
@@ -12,20 +11,18 @@ no-profiles-requires c κs = search needs
 
 returns : tie.Need-returns
 unfolding profilesOf seenProfiles
-returns c = (
-  sym (ap (profilesOf (now (c .before .before .before .before .before .before .args .text))) (seen-refused (now (c .before .before .before .before .before .before .args .text)) (c .before .before .before .before .before .before .args .p) (c .before .if1 .taken))),
-  omega (arith, c .no-profiles .ensures),
-)
+returns c =
+    let c-args = c .before .before .before .before .before .args in
+    (rw (seen-refused (now (c-args .text)) (now (c-args .vars)) (c-args .p) (c .before .if1 .taken)), omega (arith, c .no-profiles .ensures))
 
 profiles-at-requires : tie.Need-profiles-at-requires
 profiles-at-requires c κs = search needs
 
 returns-2 : tie.Need-returns-2
 unfolding profilesOf
-returns-2 c = (
-  c .profiles-at .ensures .0 ∙ sym (ap (profilesOf (now (c .before .before .before .before .before .before .before .before .args .text))) (seen-read (now (c .before .before .before .before .before .before .before .before .args .text)) (c .before .before .before .before .before .before .before .before .args .p) (c .before .before .before .if1 .left))),
-  c .profiles-at .ensures .1,
-)
+returns-2 c =
+    let c-args = c .before .before .before .before .before .args in
+    (rw (seen-read (now (c-args .text)) (now (c-args .vars)) (c-args .p) (c .before .if1 .left)) (c .profiles-at .ensures .0), c .profiles-at .ensures .1)
 
 pub profiles-of-spec : {M : Type 1} → statement M
 profiles-of-spec = tie.close (tie.spec no-profiles-requires returns profiles-at-requires returns-2)

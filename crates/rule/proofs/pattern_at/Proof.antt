@@ -1,22 +1,22 @@
 use denote.Ref.{now}
 use Rattle.scan.specs.Bytes.{bytes}
-use Rattle.text.specs.Places.{seen}
-use Rattle.text.proofs.Laws.{no-token}
+use Rattle.tokens.specs.Places.{seen}
+use Rattle.tokens.proofs.Laws.{no-token}
 use Rattle.rule.specs.Rules.{patternAt}
 use Rattle.rule.specs.Places.{seenGot}
 use borrow.Author.Needs.{needs}
 use Rattle.rule.proofs.pattern_at.Statement.{statement}
 use Rattle.rule.proofs.pattern_at.Tie as tie
 
-starts-no-rule-requires : tie.Need-starts-no-rule-requires
-starts-no-rule-requires c κs = search needs
+is-not-taken-requires : tie.Need-is-not-taken-requires
+is-not-taken-requires c κs = search needs
 
 standing-at-requires : tie.Need-standing-at-requires
 standing-at-requires c κs = search needs
 
 returns : tie.Need-returns
 unfolding patternAt seen seenGot bytes
-returns c = λ k. rw (← c .before .before .starts-no-rule .ensures, c .before .if1 .taken, c .standing-at .ensures, patternAt)
+returns c = λ k. rw (← c .before .before .is-not-taken .ensures, c .before .if1 .taken, c .standing-at .ensures, patternAt)
 
 enum-known-token : tie.Need-enum-known-token
 enum-known-token c = search needs
@@ -26,7 +26,7 @@ stop-of-requires c κs = search needs
 
 returns-2 : tie.Need-returns-2
 unfolding patternAt seen seenGot bytes
-returns-2 c = λ k. rw (← c .before .before .before .starts-no-rule .ensures, c .before .before .if1 .left, ← k, no-token (now (c .before .before .before .before .before .before .args .text)) (c .before .before .before .before .before .before .args .q .token) (c .before .match .keys2), c .stop-of .ensures, patternAt)
+returns-2 c = λ k. rw (← c .before .before .before .is-not-taken .ensures, c .before .before .if1 .left, ← k, no-token (now (c .before .before .before .before .before .before .args .text)) (c .before .before .before .before .before .before .args .q .token) (c .before .match .keys2), c .stop-of .ensures, patternAt)
 
 slice-aggregate-is-word : tie.Need-slice-aggregate-is-word
 slice-aggregate-is-word c = search needs
@@ -36,17 +36,17 @@ is-word-requires c κs = search needs
 
 returns-3 : tie.Need-returns-3
 unfolding patternAt seen seenGot bytes
-returns-3 c = λ k. rw (← c .before .before .before .before .before .before .before .before .before .starts-no-rule .ensures, c .before .before .before .before .before .before .before .before .if1 .left, ← k, c .before .before .before .before .before .before .token .given .1, seen, ← c .before .before .before .is-word .ensures, c .before .if2 .taken, patternAt)
+returns-3 c = λ k. rw (← c .before .before .before .before .before .before .before .before .before .is-not-taken .ensures, c .before .before .before .before .before .before .before .before .if1 .left, ← k, c .before .before .before .before .before .before .token .given .1, seen, ← c .before .before .before .is-word .ensures, c .before .if2 .taken, patternAt)
 
 returns-4 : tie.Need-returns-4
 unfolding patternAt seen seenGot bytes
-returns-4 c = λ k. rw (← c .before .before .before .before .before .before .before .before .starts-no-rule .ensures, c .before .before .before .before .before .before .before .if1 .left, ← k, c .before .before .before .before .before .token .given .1, seen, ← c .before .before .is-word .ensures, c .if2 .left, patternAt)
+returns-4 c = λ k. rw (← c .before .before .before .before .before .before .before .before .is-not-taken .ensures, c .before .before .before .before .before .before .before .if1 .left, ← k, c .before .before .before .before .before .token .given .1, seen, ← c .before .before .is-word .ensures, c .if2 .left, patternAt)
 
 pub pattern-at-spec : {M : Type 1} → statement M
 pattern-at-spec =
     tie.close
     (tie.spec
-    starts-no-rule-requires
+    is-not-taken-requires
     standing-at-requires
     returns
     enum-known-token

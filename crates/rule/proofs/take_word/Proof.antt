@@ -1,7 +1,7 @@
 use denote.Ref.{now}
 use mathlib.Core.Path.{refl, sym}
-use Rattle.text.specs.Places.{seen}
-use Rattle.text.proofs.Laws.{not-found}
+use Rattle.tokens.specs.Places.{seen}
+use Rattle.tokens.proofs.Laws.{not-found}
 use Rattle.rule.specs.Rules.{ifWord, optional}
 use borrow.Author.Needs.{needs}
 use Rattle.rule.proofs.take_word.Statement.{statement}

@@ -1,3 +1,4 @@
+use native.Mathlib.Nat.{sub-zero}
 use borrow.Author.Needs.{needs}
 use Prim.Native.Nat.{_+_, _-_, _≤_}
 use mathlib.Core.Path.{_≡_, ap}
@@ -15,8 +16,8 @@ Inv-loop text end before line₀ i₀ line i = (i ≤ length before) × (line �
 abbrev μ-loop : tie.MeasureT-loop
 μ-loop text end before line₀ i₀ line i = length before - i
 
-first-bytes-requires : tie.Need-first-bytes-requires Inv-loop μ-loop
-first-bytes-requires c κs = search needs
+span-requires : tie.Need-span-requires Inv-loop μ-loop
+span-requires c κs = search needs
 
 loop-holds : tie.Need-loop-holds Inv-loop μ-loop
 loop-holds c = search needs
@@ -28,7 +29,7 @@ line-feed-requires : tie.Need-line-feed-requires Inv-loop μ-loop
 line-feed-requires c κs = search needs
 
 add-line : tie.Need-add-line Inv-loop μ-loop
-add-line c = omega (arith, feed-le (getD (now (c .before .before .before .before .first-bytes .result)) (c .before .before .before .loop .i) 0))
+add-line c = omega (arith, feed-le (getD (now (c .before .before .before .before .span .result)) (c .before .before .before .loop .i) 0))
 
 add-i : tie.Need-add-i Inv-loop μ-loop
 add-i c = search needs
@@ -38,15 +39,15 @@ loop-less c = search needs
 
 loop-again : tie.Need-loop-again Inv-loop μ-loop
 loop-again c =
-    let s = now (c .before .before .before .before .first-bytes .result) in
+    let s = now (c .before .before .before .before .span .result) in
     let i = c .before .before .before .loop .i in
     omega (arith, feed-le (getD s i 0), feeds-more s i (omega arith))
 
 returns : tie.Need-returns Inv-loop μ-loop
 unfolding lineOf
 returns c =
-    let b = (c .before .before .first-bytes) in
-    omega (arith, feeds-end (now (b .result)) (c .before .loop .i) (omega arith), ap feeds (b .ensures))
+    let b = (c .before .before .span) in
+    omega (arith, feeds-end (now (b .result)) (c .before .loop .i) (omega arith), ap feeds (rw sub-zero at (b .ensures)))
 
 pub line-of-spec : {M : Type 1} → statement M
 line-of-spec =
@@ -54,7 +55,7 @@ line-of-spec =
     (tie.spec
     Inv-loop
     μ-loop
-    first-bytes-requires
+    span-requires
     loop-holds
     shared-slice-read-line-feed
     line-feed-requires

@@ -1,66 +1,60 @@
-use native.Mathlib.Omega.{arith}
-use lib.ListN.{length-map}
-use mathlib.Core.Path.{refl}
-use Rattle.variables.proofs.Laws.{named-cells}
 use borrow.Author.Needs.{needs}
+use native.Mathlib.Omega.{arith}
+use mathlib.Core.Path.{sym}
+use lib.ListN.{length-set}
+use Rattle.variables.proofs.Laws.{name-room, name-full}
 use Rattle.variables.proofs.with_name.Statement.{statement}
 use Rattle.variables.proofs.with_name.Tie as tie
 
-mul-u : tie.Need-mul-u
-mul-u c = search needs
+mul-cells : tie.Need-mul-cells
+mul-cells c = search needs
 
-mul-u-2 : tie.Need-mul-u-2
-mul-u-2 c = search needs
+mul-cells-2 : tie.Need-mul-cells-2
+mul-cells-2 c = search needs
 
-element-write-u : tie.Need-element-write-u
-element-write-u c = search needs
+slice-write-cells : tie.Need-slice-write-cells
+slice-write-cells c = search needs
 
-mul-u-3 : tie.Need-mul-u-3
-mul-u-3 c = search needs
+mul-cells-3 : tie.Need-mul-cells-3
+mul-cells-3 c = search needs
 
-add-u : tie.Need-add-u
-add-u c = search needs
+add-cells : tie.Need-add-cells
+add-cells c = search needs
 
-mul-u-4 : tie.Need-mul-u-4
-mul-u-4 c = search needs
+mul-cells-4 : tie.Need-mul-cells-4
+mul-cells-4 c = search needs
 
-element-write-u-2 : tie.Need-element-write-u-2
-element-write-u-2 c = search needs
+slice-write-cells-2 : tie.Need-slice-write-cells-2
+slice-write-cells-2 c = simp length-set (omega arith)
 
-add-u-2 : tie.Need-add-u-2
-add-u-2 c = search needs
+add-cells-2 : tie.Need-add-cells-2
+add-cells-2 c = search needs
 
-mul-u-5 : tie.Need-mul-u-5
-mul-u-5 c = search needs
+mul-cells-5 : tie.Need-mul-cells-5
+mul-cells-5 c = search needs
 
-element-write-u-3 : tie.Need-element-write-u-3
-element-write-u-3 c = search needs
-
-add-u-3 : tie.Need-add-u-3
-add-u-3 c = search needs
+slice-write-cells-3 : tie.Need-slice-write-cells-3
+slice-write-cells-3 c = simp length-set (omega arith)
 
 returns : tie.Need-returns
-returns c =
-    let a = (c .before .args) in
-    λ h. (refl, named-cells (a .vars .table) (a .vars .count) (a .start) (a .end) (simp length-map at (c .before .good .0 .1 .1 .0 .1 .0 .1)) h)
+returns c = (search needs, sym (name-room _ _ _ _ (c .if1 .taken)))
 
 returns-2 : tie.Need-returns-2
-returns-2 c = λ h. absurd (omega arith)
+returns-2 c = (search needs, sym (name-full _ _ _ _ (c .if1 .left)))
 
 pub with-name-spec : {M : Type 1} → statement M
 with-name-spec =
     tie.close
     (tie.spec
-    mul-u
-    mul-u-2
-    element-write-u
-    mul-u-3
-    add-u
-    mul-u-4
-    element-write-u-2
-    add-u-2
-    mul-u-5
-    element-write-u-3
-    add-u-3
+    mul-cells
+    mul-cells-2
+    slice-write-cells
+    mul-cells-3
+    add-cells
+    mul-cells-4
+    slice-write-cells-2
+    add-cells-2
+    mul-cells-5
+    slice-write-cells-3
     returns
     returns-2)

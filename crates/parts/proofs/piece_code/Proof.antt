@@ -1,0 +1,67 @@
+use native.Mathlib.Omega.{arith}
+use mathlib.Core.Path.{sym, ap}
+use Rattle.pattern.specs.Reads.{codeOf}
+use borrow.Author.Needs.{needs}
+use Rattle.parts.proofs.piece_code.Statement.{statement}
+use Rattle.parts.proofs.piece_code.Tie as tie
+
+enum-known-p : tie.Need-enum-known-p
+enum-known-p c = search needs
+
+cast-result : tie.Need-cast-result
+cast-result c = search needs
+
+enum-told : tie.Need-enum-told
+enum-told c = search needs
+
+enum-told-2 : tie.Need-enum-told-2
+enum-told-2 c = search needs
+
+enum-told-3 : tie.Need-enum-told-3
+enum-told-3 c = search needs
+
+enum-known-p-2 : tie.Need-enum-known-p-2
+enum-known-p-2 c = search needs
+
+cast-result-2 : tie.Need-cast-result-2
+cast-result-2 c = search needs
+
+add-result : tie.Need-add-result
+add-result c = search needs
+
+returns : tie.Need-returns
+returns c = λ h. sym (ap codeOf (c .before .before .p2 .given .1))
+
+returns-2 : tie.Need-returns-2
+returns-2 c = λ h. sym (ap codeOf (c .before .p .given .1))
+
+returns-3 : tie.Need-returns-3
+returns-3 c = λ h. sym (ap codeOf (c .enum-told .given .1))
+
+returns-4 : tie.Need-returns-4
+returns-4 c = λ h. sym (ap codeOf (c .enum-told2 .given .1))
+
+returns-5 : tie.Need-returns-5
+returns-5 c = λ h. sym (ap codeOf (c .enum-told3 .given .1))
+
+returns-6 : tie.Need-returns-6
+returns-6 c = λ h. absurd (omega (arith, h, ap codeOf (c .before .before .p2 .given .1)))
+
+pub piece-code-spec : {M : Type 1} → statement M
+piece-code-spec =
+    tie.close
+    (tie.spec
+    enum-known-p
+    cast-result
+    enum-told
+    enum-told-2
+    enum-told-3
+    enum-known-p-2
+    cast-result-2
+    add-result
+    returns
+    returns-2
+    returns-3
+    returns-4
+    returns-5
+    returns-6)

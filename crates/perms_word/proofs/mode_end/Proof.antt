@@ -1,0 +1,66 @@
+use borrow.Author.Needs.{needs}
+use mathlib.Core.Path.{_≡_, sym, ap, _∙_}
+use Prim.Native.Nat.{_+_, _-_}
+use native.Mathlib.Omega.{arith}
+use denote.Ref.{now}
+use lib.ListN.{length, drop}
+use mathlib.Core.Bool.{not}
+use Rattle.scan.specs.Bytes.{run}
+use Rattle.perms_word.specs.Words.{other}
+use Rattle.scan.proofs.Laws.{run-more, run-stop, run-end}
+use Rattle.perms_word.proofs.mode_end.Statement.{statement}
+use Rattle.perms_word.proofs.mode_end.Tie as tie
+
+abbrev Inv-loop : tie.InvT-loop
+Inv-loop word at i₀ i = i + run other (drop i word) ≡ at + run other (drop at word)
+
+abbrev μ-loop : tie.MeasureT-loop
+μ-loop word at i₀ i = length word - i
+
+loop-holds : tie.Need-loop-holds Inv-loop μ-loop
+loop-holds c = search needs
+
+shared-slice-read-is-letter : tie.Need-shared-slice-read-is-letter Inv-loop μ-loop
+shared-slice-read-is-letter c = search needs
+
+is-letter-requires : tie.Need-is-letter-requires Inv-loop μ-loop
+is-letter-requires c κs = search needs
+
+returns : tie.Need-returns Inv-loop μ-loop
+returns c =
+    let l = c .before .before .before .before .loop in
+    let w = now (c .before .before .before .before .before .before .args .word) in
+    omega (arith, run-stop other w (l .i) (omega arith) (ap not (sym (c .before .is-letter .ensures) ∙ c .if1 .taken)))
+
+add-i : tie.Need-add-i Inv-loop μ-loop
+add-i c = search needs
+
+loop-less : tie.Need-loop-less Inv-loop μ-loop
+loop-less c = search needs
+
+loop-again : tie.Need-loop-again Inv-loop μ-loop
+loop-again c =
+    let l = c .before .before .before .before .loop in
+    let w = now (c .before .before .before .before .before .before .args .word) in
+    omega (arith, run-more other w (l .i) (omega arith) (ap not (sym (c .before .is-letter .ensures) ∙ c .if1 .left)))
+
+returns-2 : tie.Need-returns-2 Inv-loop μ-loop
+returns-2 c =
+    let l = c .before .loop in
+    let w = now (c .before .before .before .args .word) in
+    omega (arith, run-end other w (l .i) (omega arith))
+
+pub mode-end-spec : {M : Type 1} → statement M
+mode-end-spec =
+    tie.close
+    (tie.spec
+    Inv-loop
+    μ-loop
+    loop-holds
+    shared-slice-read-is-letter
+    is-letter-requires
+    returns
+    add-i
+    loop-less
+    loop-again
+    returns-2)

@@ -1,0 +1,87 @@
+use denote.Ref.{now}
+use native.Mathlib.Omega.{arith}
+use Prim.Native.Nat.{_≤_, _-_}
+use mathlib.Core.Path.{refl, sym, _∙_}
+use lib.ListN.{length}
+use Rattle.scan.specs.Bytes.{bytes}
+use Rattle.blanks.specs.Blanks.{standing}
+use Rattle.statement.specs.Steps.{ruleAt}
+use Rattle.rule.specs.Places.{seenGot}
+use Rattle.statement.specs.Places.{seenRule, seenStep}
+use Rattle.blanks.proofs.Laws.{stands-inside}
+use borrow.Author.Needs.{needs}
+use Rattle.statement.proofs.rule_here.Statement.{statement}
+use Rattle.statement.proofs.rule_here.Tie as tie
+
+slice-aggregate-stands-at : tie.Need-slice-aggregate-stands-at
+slice-aggregate-stands-at c = search needs
+
+stands-at-requires : tie.Need-stands-at-requires
+stands-at-requires c κs = search needs
+
+standing-at-requires : tie.Need-standing-at-requires
+standing-at-requires c κs = search needs
+
+add-t19 : tie.Need-add-t19
+unfolding bytes
+add-t19 c =
+    let s = now (c .before .before .before .before .before .args .text) in
+    let h : 1 ≤ length s - standing s (c .before .before .before .before .before .args .at .0) = stands-inside (bytes "}") s (c .before .before .before .before .before .args .at .0) (sym (c .before .before .stands-at .ensures) ∙ c .before .if1 .taken) in
+    omega (arith, c .standing-at .ensures)
+
+returns : tie.Need-returns
+unfolding ruleAt seenStep bytes
+returns c = (λ k. rw (c .standing-at .ensures, ← c .before .before .stands-at .ensures, c .before .if1 .taken, ruleAt), refl)
+
+qualifiers-at-requires : tie.Need-qualifiers-at-requires
+qualifiers-at-requires c κs = search needs
+
+pattern-at-requires : tie.Need-pattern-at-requires
+pattern-at-requires c κs = search needs
+
+enum-known-stop : tie.Need-enum-known-stop
+enum-known-stop c = search needs
+
+enum-known-t : tie.Need-enum-known-t
+enum-known-t c = search needs
+
+rule-from-requires : tie.Need-rule-from-requires
+rule-from-requires c κs = search needs
+
+enum-known-stop-2 : tie.Need-enum-known-stop-2
+enum-known-stop-2 c = search needs
+
+enum-known-rule : tie.Need-enum-known-rule
+enum-known-rule c = search needs
+
+returns-2 : tie.Need-returns-2
+unfolding ruleAt seenGot seenStep bytes
+returns-2 c = (λ k. rw (← c .before .before .before .before .before .before .stands-at .ensures, c .before .before .before .before .before .if1 .left, ← c .before .before .before .before .qualifiers-at .ensures .is, ← c .before .before .before .pattern-at .ensures (c .before .before .before .before .qualifiers-at .ensures .token), c .before .stop .given .1, seenGot, ruleAt), refl)
+
+returns-3 : tie.Need-returns-3
+unfolding ruleAt seenGot seenRule seenStep bytes
+returns-3 c = (λ k. rw (← c .before .before .before .before .before .before .before .before .before .before .stands-at .ensures, c .before .before .before .before .before .before .before .before .before .if1 .left, ← c .before .before .before .before .before .before .before .before .qualifiers-at .ensures .is, ← c .before .before .before .before .before .before .before .pattern-at .ensures (c .before .before .before .before .before .before .before .before .qualifiers-at .ensures .token), c .before .before .before .before .before .t .given .1, seenGot, ← c .before .before .before .rule-from .ensures .0 k, c .before .stop2 .given .1, seenRule, ruleAt), refl)
+
+returns-4 : tie.Need-returns-4
+unfolding ruleAt seenGot seenRule seenStep bytes
+returns-4 c = (λ k. rw (← c .before .before .before .before .before .before .before .before .before .before .stands-at .ensures, c .before .before .before .before .before .before .before .before .before .if1 .left, ← c .before .before .before .before .before .before .before .before .qualifiers-at .ensures .is, ← c .before .before .before .before .before .before .before .pattern-at .ensures (c .before .before .before .before .before .before .before .before .qualifiers-at .ensures .token), c .before .before .before .before .before .t .given .1, seenGot, ← c .before .before .before .rule-from .ensures .0 k, c .before .rule .given .1, seenRule, ruleAt), rw (c .before .rule .given .1) at (c .before .before .before .rule-from .ensures .1))
+
+pub rule-here-spec : {M : Type 1} → statement M
+rule-here-spec =
+    tie.close
+    (tie.spec
+    slice-aggregate-stands-at
+    stands-at-requires
+    standing-at-requires
+    add-t19
+    returns
+    qualifiers-at-requires
+    pattern-at-requires
+    enum-known-stop
+    enum-known-t
+    rule-from-requires
+    enum-known-stop-2
+    enum-known-rule
+    returns-2
+    returns-3
+    returns-4)

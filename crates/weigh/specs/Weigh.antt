@@ -1,0 +1,21 @@
+-- What one rule more adds to what was gathered, by how its pattern matches.
+use Prim.Native.Nat.{ℕ, _≤_}
+use mathlib.Core.Path.{_≡_}
+use mathlib.Core.List.{List}
+use mathlib.Core.Bool.{Bool, true, not, _||_, _&&_}
+use lib.ListN.{length}
+use Rattle.scan.specs.Bytes.{if_then_else_}
+use Rattle.matcher.specs.Walk.{pathFits}
+use Rattle.glob.specs.declared.Matched.{Matched}
+use Rattle.rule.specs.Rules.{Rule}
+use Rattle.findings.specs.Weighed.{Weighed, allowing, denying}
+
+-- a rule more, by how its pattern matches and whether the request is the owner's
+unfoldable pub weighedBy : (owner : Bool) → Matched → Rule → Weighed → Weighed
+weighedBy owner m r w =
+    if (not (r .owner) || owner) && m .some then (if r .deny then denying r w else allowing (m .exact) r w) else w
+
+-- the text and the path are within the sizes of document 01
+pub record Fits (text path : List ℕ) : Type 0 where
+  pub short : length text ≤ 65535
+  pub fits : pathFits path ≡ true

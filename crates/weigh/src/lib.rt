@@ -1,0 +1,113 @@
+// The rules of a profile, weighed one by one on a request.
+use findings::Carried;
+use findings::Choice;
+use findings::Findings;
+use findings::allow;
+use findings::deny;
+use glob::match_good;
+use perms::Perms;
+use rule::Rule;
+use statement::Step;
+use statement::rule_at;
+use text::Place;
+ghost use mathlib.Core.Path.{_≡_};
+ghost use mathlib.Core.List.{List};
+ghost use Prim.Native.Nat.{ℕ};
+ghost use Rattle.pattern.specs.Faults.{patternFault};
+ghost use Rattle.pattern.specs.Table.{env};
+ghost use Rattle.sizes.specs.Sizes.{Known};
+ghost use Rattle.glob.specs.Glob.{matchedOf};
+ghost use Rattle.rule.specs.Places.{ruleOf};
+ghost use Rattle.text.specs.Places.{spanOf};
+ghost use Rattle.statement.specs.Steps.{rulesFrom};
+ghost use Rattle.findings.specs.Findings.{findings};
+ghost use Rattle.findings.specs.Weighed.{nothing, seenFindings, weighed};
+ghost use Rattle.weigh.specs.Weigh.{Fits, weighedBy};
+
+// The findings of no rule.
+fn no_findings() -> Findings
+    ensures { λ r. ⌜ ((s : List ℕ) → seenFindings s r ≡ nothing) ⌝ }
+{
+    Findings {
+        allowed: Carried {
+            all: Perms(0),
+            audited: Perms(0),
+        },
+        denied: Carried {
+            all: Perms(0),
+            audited: Perms(0),
+        },
+        exact: Choice::None,
+        others: Choice::None,
+    }
+}
+
+// The findings with one rule more, whose pattern has no fault, under the first n variables, whose sizes are known.
+fn weigh(
+    text: &[u8],
+    vars: &[usize; 1120],
+    n: usize,
+    sizes: &[usize; 132],
+    path: &[u8],
+    owner: bool,
+    rule: Rule,
+    found: Findings,
+) -> Findings
+    ensures { λ r. ⌜ (Known (now (text .entry)) (now (vars .entry)) n (now (sizes .entry)) →
+        Fits (now (text .entry)) (now (path .entry)) →
+        patternFault (env (now (text .entry)) (now (vars .entry)) n) (spanOf (now (text .entry)) (rule .pattern)) ≡ 0 →
+        seenFindings (now (text .entry)) r
+        ≡ weighedBy owner (matchedOf (now (text .entry)) (env (now (text .entry)) (now (vars .entry)) n) (spanOf (now (text .entry)) (rule .pattern)) (now (path .entry))) (ruleOf (now (text .entry)) rule) (seenFindings (now (text .entry)) found)) ⌝ }
+{
+    if rule.owner & !owner {
+        return found;
+    }
+    let pattern = rule.pattern;
+    let m = match_good(text, vars, n, sizes, pattern.from.0, pattern.end.0, path);
+    if m.some {
+        if rule.deny {
+            return deny(text, rule, found);
+        }
+        return allow(text, m.exact, rule, found);
+    }
+    found
+}
+
+// The findings of count rules from a place on.
+pub fn findings_of(
+    text: &[u8],
+    vars: &[usize; 1120],
+    n: usize,
+    sizes: &[usize; 132],
+    path: &[u8],
+    owner: bool,
+    count: usize,
+    at: Place,
+) -> Findings
+    ensures { λ r. ⌜ (Known (now (text .entry)) (now (vars .entry)) n (now (sizes .entry)) →
+        Fits (now (text .entry)) (now (path .entry)) →
+        (asked : ℕ) →
+        seenFindings (now (text .entry)) r
+        ≡ weighed (findings (env (now (text .entry)) (now (vars .entry)) n) (record { path = now (path .entry); asked = asked; owner = owner }) (rulesFrom count (env (now (text .entry)) (now (vars .entry)) n) (now (text .entry)) (at .0)))) ⌝ }
+{
+    let mut found = no_findings();
+    let mut place = at;
+    let mut i: usize = 0;
+    while i < count {
+        let r = rule_at(text, vars, n, sizes, 0, place);
+        match r {
+            Step::Rule { rule, next } => {
+                found = weigh(text, vars, n, sizes, path, owner, rule, found);
+                place = next;
+                i += 1;
+            }
+            Step::Close { next: _ } => {
+                return found;
+            }
+            Step::Refused(_) => {
+                return found;
+            }
+        }
+    }
+    found
+}
