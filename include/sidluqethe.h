@@ -72,6 +72,10 @@ enum {
     SIDLUQETHE_NO_PROFILE = 11     /* no profile with that name */
 };
 
+/* One call uses less than so many bytes of the caller's stack: measured on the largest texts (tools/stack.c), not proved.
+ * It allocates nothing. */
+enum { SIDLUQETHE_STACK_BYTES = 49152 };
+
 /* Writes the answer to a request into the buffer and returns SIDLUQETHE_ANSWER_BYTES. A buffer of fewer bytes
  * stays as it was, and 0 is returned. owner is 0 where the file is not the step's own, any other number where it is.
  * Text, name and path are only read; they need no terminating NUL. A pointer may not be null, even with length 0.

@@ -18,7 +18,9 @@ fn main() {
         Some(folder) => given(PathBuf::from(folder)),
         None => default_folder(),
     };
-    println!("cargo:rerun-if-changed={}", folder.join(ARCHIVE).display());
+    let archive = folder.join(ARCHIVE);
+    println!("cargo:rerun-if-changed={}", archive.display());
+    println!("cargo:rustc-env=SIDLUQETHE_ARCHIVE={}", archive.display());
     println!("cargo:rustc-link-search=native={}", folder.display());
     println!("cargo:rustc-link-lib=static=broker");
 }

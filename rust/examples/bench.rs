@@ -1,9 +1,11 @@
 //! Times `decide` against plain C functions and prints a Markdown table.
 //!
 //! `cargo run --release --example bench` measures everything in one run of
-//! under a minute. `bench RULES PATHS` only asks that many requests of one
-//! profile, for `valgrind --tool=callgrind`; `bench RULES PATHS read` the
-//! same with a profile name that the text lacks.
+//! under a minute. For `valgrind --tool=callgrind` (`tools/instructions`)
+//! only one kind of work is done, so many times: `bench decide RULES TIMES`
+//! asks requests of one profile, `bench read RULES TIMES` the same with a
+//! profile name that the text lacks, `bench long TIMES` reads the long text,
+//! and `bench lines TIMES` counts its LFs.
 
 use sidluqethe::{decide, Perms};
 use std::env;
@@ -199,12 +201,21 @@ fn requests(rules: usize) {
     );
 }
 
-fn reading() {
+/// A text of 512 rules and 54,800 bytes.
+fn long_text() -> Vec<u8> {
     let patterns: Vec<String> = (0..512)
         .map(|n| format!("/var/lib/lab/projects/department-{:02}/experiment-{n:04}/final-results/checkpoint-????/[a-f0-9]*/values/**", n % 37))
         .collect();
-    let text = text(patterns.iter().map(String::as_str));
-    let path = [CString::new("/proc/1/status").unwrap()];
+    text(patterns.iter().map(String::as_str))
+}
+
+fn any_path() -> [CString; 1] {
+    [CString::new("/proc/1/status").unwrap()]
+}
+
+fn reading() {
+    let text = long_text();
+    let path = any_path();
     let mut rows = Vec::new();
     for _ in 0..PASSES {
         let (read, count) = time(1, || by_reading(&text, &path));
@@ -225,18 +236,37 @@ fn reading() {
     println!("Reading / a loop that counts LFs ({lines:.2} µs): {by_lines:.0}.");
 }
 
+/// Does one kind of work so many times.
+fn only(arguments: &[&str]) {
+    let number = |word: &str| word.parse::<usize>().expect("a number");
+    let count = match *arguments {
+        ["decide", rules, times] => {
+            let load = load(number(rules));
+            by_decide(&load.text, &load.paths[..number(times)])
+        }
+        ["read", rules, times] => {
+            let load = load(number(rules));
+            by_reading(&load.text, &load.paths[..number(times)])
+        }
+        ["long", times] => {
+            let (text, path) = (long_text(), any_path());
+            (0..number(times)).map(|_| by_reading(&text, &path)).sum()
+        }
+        ["lines", times] => {
+            let text = long_text();
+            let times = 0..number(times);
+            times.map(|_| line_feeds(black_box(&text))).sum()
+        }
+        _ => panic!("decide RULES TIMES, read RULES TIMES, long TIMES or lines TIMES"),
+    };
+    println!("{count}");
+}
+
 fn main() {
     let arguments: Vec<String> = env::args().skip(1).collect();
-    if let [rules, paths, rest @ ..] = arguments.as_slice() {
-        let load = load(rules.parse().expect("RULES"));
-        let paths = &load.paths[..paths.parse().expect("PATHS")];
-        let work = if rest.is_empty() {
-            by_decide
-        } else {
-            by_reading
-        };
-        println!("{} of {}", work(&load.text, paths), paths.len());
-        return;
+    if !arguments.is_empty() {
+        let words: Vec<&str> = arguments.iter().map(String::as_str).collect();
+        return only(&words);
     }
     let start = Instant::now();
     println!("Medians of {ROUNDS} rounds, per request; ratios and shares are taken in each round.");

@@ -4,6 +4,8 @@
 //! a path, the asked permissions and the owner mark. It says what is granted,
 //! what is recorded and which execute transition applies, or refuses with a
 //! number and a line. Any bytes may be given; nothing needs checking first.
+//! A call allocates nothing but a target's bytes, and the library uses less
+//! than 48 KiB of the caller's stack (measured on the largest texts).
 //!
 //! # Example
 //!

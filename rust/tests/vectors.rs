@@ -1,51 +1,74 @@
-//! The reference and the library against the vector files.
+//! The reference and the library against the requests and answers that the
+//! repository stores: those of the program `cases`, the vectors among them.
 
 mod reference;
 mod vector;
 
-use std::env;
 use std::fs;
-use std::path::PathBuf;
-use vector::{fields, Request};
+use std::path::Path;
+use std::thread;
+use vector::{fields, hex, Request};
 
 #[test]
-fn reference_agrees_with_the_vectors() {
-    for file in ["small.tsv", "large.tsv"] {
-        check(file, "the reference", |r| fields(&r.by_reference()));
-    }
+fn reference_agrees_with_the_stored_answers() {
+    check("the reference", |r| fields(&r.by_reference()));
 }
 
 #[test]
-fn library_agrees_with_the_vectors() {
-    for file in ["small.tsv", "large.tsv"] {
-        check(file, "the library", Request::by_library);
+fn library_agrees_with_the_stored_answers() {
+    check("the library", Request::by_library);
+}
+
+/// The same by a thread whose stack is small: the largest texts, accepted and
+/// refused, are among them.
+#[test]
+fn a_small_stack_is_enough() {
+    let thread = thread::Builder::new().stack_size(64 << 10);
+    let work = || check("a thread of 64 KiB", Request::by_library);
+    let thread = thread.spawn(work).expect("a thread");
+    thread.join().expect("an end without a panic");
+}
+
+/// A file of the program `cases`.
+fn stored(name: &str) -> Vec<u8> {
+    let cases = Path::new(env!("CARGO_MANIFEST_DIR")).join("../crates/cases");
+    let path = cases.join(name);
+    fs::read(&path).unwrap_or_else(|e| panic!("no vectors: {}: {e}", path.display()))
+}
+
+/// The lines of a file. Each ends with LF.
+fn lines(bytes: &[u8]) -> Vec<&[u8]> {
+    let end = bytes.strip_suffix(b"\n").expect("a last LF");
+    end.split(|b| *b == b'\n').collect()
+}
+
+/// Fields 6 to 9 of a stored answer, which has its target in plain bytes.
+fn expected(line: &[u8]) -> String {
+    let tab = line.iter().rposition(|b| *b == b'\t').expect("a tab");
+    let (front, target) = (&line[..=tab], &line[tab + 1..]);
+    let front = String::from_utf8_lossy(front);
+    match target {
+        b"-" => format!("{front}-"),
+        bytes => front.to_string() + &hex(bytes),
     }
 }
 
-/// The folder of the files, `SIDLUQETHE_VECTORS` or the usual one.
-fn folder() -> PathBuf {
-    match env::var_os("SIDLUQETHE_VECTORS") {
-        Some(folder) => folder.into(),
-        None => PathBuf::from(env!("CARGO_MANIFEST_DIR")).join("../../shared/vectors"),
-    }
-}
-
-fn check(file: &str, who: &str, decide: impl Fn(&Request) -> String) {
-    let path = folder().join(file);
-    let Ok(lines) = fs::read_to_string(&path) else {
-        println!("skipped: no {}", path.display());
-        return;
-    };
+fn check(who: &str, decide: impl Fn(&Request) -> String) {
+    let (requests, answers) = (stored("stdin"), stored("stdout"));
+    let (requests, answers) = (lines(&requests), lines(&answers));
+    // The answers have a line of titles.
+    assert_eq!(requests.len() + 1, answers.len(), "requests and answers");
     let (mut count, mut wrong) = (0, 0);
-    for (number, line) in (1..).zip(lines.lines()) {
-        let (request, expected) = Request::parse(line).unwrap_or_else(|e| panic!("{number}: {e}"));
-        let given = decide(&request);
+    for (request, answer) in requests.into_iter().zip(&answers[1..]) {
         count += 1;
+        let line = String::from_utf8_lossy(request);
+        let (request, _) = Request::parse(&line).unwrap_or_else(|e| panic!("{count}: {e}"));
+        let (given, expected) = (decide(&request), expected(answer));
         if given != expected {
             wrong += 1;
-            println!("{file}:{number}: {line}\n  {who}: {given}");
+            println!("{count}: {line}\t{expected}\n  {who}: {given}");
         }
     }
-    println!("{file}: {who} agrees on {} of {count} lines", count - wrong);
-    assert_eq!(wrong, 0, "{file}: {wrong} lines differ");
+    println!("{who} agrees on {} of {count} requests", count - wrong);
+    assert_eq!(wrong, 0, "{who}: {wrong} answers differ");
 }
