@@ -4,20 +4,17 @@ use Prim.Native.Char.{code}
 use mathlib.Core.Path.{_≡_, refl, sym, ap, _∙_}
 use mathlib.Core.List.{List, [], _∷_}
 use mathlib.Core.Bool.{Bool, true, false, not, _||_, _&&_, false≢true}
-use lib.ListN.{length, getD, drop, drop-of-length-le}
-use lib.Seq.{drop-cons}
-use lib.Dec.{eqb, ltb}
+use lib.ListN.{length, getD}
+use lib.Dec.{ltb}
 use borrow.Author.Tests.{ltb-false, le-leb, lt-ltb, le-ltb}
 use native.Mathlib.Omega.{arith}
 use Rattle.scan.specs.Bytes.{begins, holds, isEmpty, same}
-use Rattle.class.proofs.Laws.{begins-with}
 use Rattle.text.specs.Reading.{Reading, Read, Refused}
 use Rattle.blanks.specs.Blanks.{nul}
 use Rattle.pattern.specs.Expansions.{Variable}
 use Rattle.pattern.specs.Table.{bytesAt, env}
 use Rattle.matcher.specs.Walk.{pathFits}
 use Rattle.statement.specs.Steps.{rulesFrom}
-use Rattle.faults.proofs.Laws.{empty-no}
 use Rattle.profile.specs.Profiles.{File, fileOf}
 use Rattle.profile.specs.Places.{Judged, Accepted, Rejected, judgedOf, profilesFrom, seenFile}
 use Rattle.profile.specs.declared.FileRead.{FileRead}
@@ -26,30 +23,13 @@ use Rattle.weigh.proofs.Sound.{All, ShortMove, choice-short, rules-short}
 use Rattle.answer.specs.Answers.{answerFrom, moveOf, preferred, refusal}
 use Rattle.answer.specs.Short.{Short}
 use Rattle.answer.specs.declared.Answer.{Answer}
-use Rattle.decide.specs.Decide.{answerBy, answerIn, answerOf, badAsked, badPath, doubled}
+use Rattle.request.specs.Requests.{badAsked, badPath, doubled}
+use Rattle.decide.specs.Decide.{answerBy, answerIn, answerOf}
 use Rattle.decide.specs.Places.{foundFrom}
 use Rattle.decide.specs.declared.Found.{Found}
 use Rattle.decide.specs.declared.Found.the-variants.{Rules, Nowhere}
 
 -- ---- paths
-
-module _ (s : List ℕ) (i : ℕ) where
-  pub doubled-more : i < length s → doubled (drop i s) ≡ ((eqb (getD s i 0) (code "/") && begins (code "/") (drop (i + 1) s)) || doubled (drop (i + 1) s))
-  unfolding doubled
-  doubled-more h = let e : i + 1 ≡ suc i = omega arith in rw (drop-cons s i 0 h, e)
-
-  pub doubled-end : length s ≤ i → doubled (drop i s) ≡ false
-  unfolding doubled
-  doubled-end h = rw (drop-of-length-le s h)
-
-pub bad-empty : (s : List ℕ) → length s ≡ 0 → badPath s ≡ true
-unfolding badPath
-bad-empty [] e = refl
-bad-empty (b ∷ s) e = absurd (omega arith)
-
-pub bad-more : (s : List ℕ) → (length s ≡ 0 → ⊥) → badPath s ≡ (ltb 4095 (length s) || not (eqb (getD s 0 0) (code "/")) || holds nul s || doubled s)
-unfolding badPath
-bad-more s h = let n : 0 < length s = omega arith in rw (empty-no s h, begins-with (code "/") s n)
 
 -- a path that is not refused fits
 pub good-fits : (s : List ℕ) → badPath s ≡ false → pathFits s ≡ true

@@ -1,35 +1,18 @@
 -- The answer to a text, a profile name and a request.
 use Prim.Native.Nat.{ℕ}
-use Prim.Native.Char.{code}
 use mathlib.Core.List.{List, [], _∷_}
-use mathlib.Core.Bool.{Bool, true, false, not, _||_, _&&_}
+use mathlib.Core.Bool.{Bool, true, false}
 use lib.ListN.{length}
-use lib.Dec.{eqb, ltb}
-use Rattle.scan.specs.Bytes.{begins, holds, isEmpty, same}
+use lib.Dec.{ltb}
+use Rattle.scan.specs.Bytes.{same}
 use Rattle.text.specs.Reading.{Reading, Read, Refused, lineOf}
-use Rattle.blanks.specs.Blanks.{nul}
+use Rattle.request.specs.Requests.{badAsked, badPath}
 use Rattle.pattern.specs.Expansions.{Variable}
 use Rattle.preamble.specs.Variables.{finalSets}
 use Rattle.profile.specs.Profiles.{File, Profile, fileOf}
 use Rattle.findings.specs.Findings.{Request, findings}
 use Rattle.answer.specs.Answers.{answerFrom, refusal}
 use Rattle.answer.specs.declared.Answer.{Answer}
-
--- ---- refusals 2 and 3
-
-unfoldable pub doubled : List ℕ → Bool
-doubled [] = false
-doubled (b ∷ s) = (eqb b (code "/") && begins (code "/") s) || doubled s
-
--- refusal 2: "path empty, over 4,095 bytes, not starting /, holding NUL or //"
-unfoldable pub badPath : List ℕ → Bool
-badPath s = isEmpty s || ltb 4095 (length s) || not (begins (code "/") s) || holds nul s || doubled s
-
--- refusal 3: "asked set 0 or over 127"
-abbrev pub badAsked : ℕ → Bool
-badAsked n = eqb n 0 || ltb 127 n
-
--- ---- the whole answer
 
 -- the answer of the profile of that name; 11: "no profile with that name"
 unfoldable pub answerIn : List Variable → Request → (name : List ℕ) → List Profile → Answer

@@ -4,7 +4,8 @@ use answer::finish;
 use answer::refused;
 use perms::Perms;
 use profile::read;
-use scan::begins_at;
+use request::is_bad_asked;
+use request::is_bad_path;
 use text::Place;
 use weigh::findings_of;
 ghost use mathlib.Core.Path.{_≡_};
@@ -13,7 +14,7 @@ ghost use Rattle.sizes.specs.Sizes.{Known};
 ghost use Rattle.pattern.specs.Table.{env};
 ghost use Rattle.profile.specs.Places.{profilesFrom};
 ghost use Rattle.weigh.specs.Weigh.{Fits};
-ghost use Rattle.decide.specs.Decide.{answerIn, answerOf, badAsked, badPath, doubled};
+ghost use Rattle.decide.specs.Decide.{answerIn, answerOf};
 ghost use Rattle.decide.specs.Places.{foundFrom};
 
 // The numbers of the refusals that are not the text's: too long a text, a bad path, a bad asked set, no such profile.
@@ -24,37 +25,6 @@ const BAD_PATH: u8 = 2;
 const BAD_ASKED: u8 = 3;
 
 const NO_PROFILE: u8 = 11;
-
-// Whether a slash follows a slash.
-fn is_doubled(path: &[u8]) -> bool
-    ensures { λ r. ⌜ r ≡ doubled (now (path .entry)) ⌝ }
-{
-    let mut i = 0;
-    while i < path.len() {
-        if (path[i] == b'/') & begins_at(path, i + 1, b'/') {
-            return true;
-        }
-        i += 1;
-    }
-    false
-}
-
-// Whether a path is refused.
-fn is_bad_path(path: &[u8]) -> bool
-    ensures { λ r. ⌜ r ≡ badPath (now (path .entry)) ⌝ }
-{
-    if path.len() == 0 {
-        return true;
-    }
-    (4095 < path.len()) | (path[0] != b'/') | scan::holds_byte(path, 0) | is_doubled(path)
-}
-
-// Whether an asked set is refused.
-fn is_bad_asked(asked: Perms) -> bool
-    ensures { λ r. ⌜ r ≡ badAsked (asked .0) ⌝ }
-{
-    (asked.0 == 0) | (127 < asked.0)
-}
 
 // The rules of a profile: where they start and how many they are; or that there is no such profile.
 pub enum Found {

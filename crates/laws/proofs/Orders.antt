@@ -20,7 +20,8 @@ use Rattle.preamble.specs.Variables.{finalSets}
 use Rattle.profile.specs.Profiles.{Profile, File, fileOf}
 use Rattle.findings.specs.Findings.{Request, Move, Findings, applies, allows, audited, denies, exactly, otherwise, those, bits, moveBy, moves, findings, sameMove, SameMembers, Equal, Choice, None, Single, Several, choice}
 use Rattle.answer.specs.Answers.{preferred, chosen, isMode, namedBy, targetOf, moveOf, executeOf, grants, answerFrom, refusal}
-use Rattle.decide.specs.Decide.{badPath, badAsked, answerIn, answerBy, answerOf}
+use Rattle.request.specs.Requests.{badPath, badAsked}
+use Rattle.decide.specs.Decide.{answerIn, answerBy, answerOf}
 use Rattle.answer.specs.declared.Answer.{Answer}
 use Rattle.laws.specs.Orders.{Accepted, SameRules, Added, Paired, none, both, SameButRules, Holds, here, later, NoMore, NoLess}
 use Rattle.matcher.proofs.Laws.{or-cases, or-r}

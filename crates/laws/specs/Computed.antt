@@ -4,7 +4,8 @@ use mathlib.Core.List.{List}
 use mathlib.Core.Bool.{Bool}
 use Rattle.class.specs.Class.{ranges, goodClass, listed, inClass}
 use Rattle.answer.specs.Answers.{moveOf, executeOf, grants, records, answerFrom}
-use Rattle.decide.specs.Decide.{doubled, badPath, answerIn, answerOf}
+use Rattle.request.specs.Requests.{doubled, badPath}
+use Rattle.decide.specs.Decide.{answerIn, answerOf}
 use Rattle.findings.specs.Findings.{applies, those, bits, moves, findings, choice}
 use Rattle.matcher.specs.Match.{matches, matchesSome, matchesExactly}
 use Rattle.pattern.specs.Expansions.{isSet, ofParts, oneOf, ofName, ofItems, across, expansions, count, longest, joinedAfter}

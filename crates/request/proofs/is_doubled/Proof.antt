@@ -4,10 +4,10 @@ use native.Mathlib.Omega.{arith}
 use Prim.Native.Nat.{_-_}
 use mathlib.Core.Path.{_≡_, refl, sym, _∙_}
 use lib.ListN.{length, drop}
-use Rattle.decide.specs.Decide.{doubled}
-use Rattle.decide.proofs.Laws.{doubled-end, doubled-more}
-use Rattle.decide.proofs.is_doubled.Statement.{statement}
-use Rattle.decide.proofs.is_doubled.Tie as tie
+use Rattle.request.specs.Requests.{doubled}
+use Rattle.request.proofs.Laws.{doubled-end, doubled-more}
+use Rattle.request.proofs.is_doubled.Statement.{statement}
+use Rattle.request.proofs.is_doubled.Tie as tie
 
 abbrev Inv-loop : tie.InvT-loop
 Inv-loop path i₀ i = doubled path ≡ doubled (drop i path)

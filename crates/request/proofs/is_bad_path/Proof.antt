@@ -1,9 +1,9 @@
 use denote.Ref.{now}
 use mathlib.Core.Path.{sym, _∙_}
-use Rattle.decide.proofs.Laws.{bad-empty, bad-more}
+use Rattle.request.proofs.Laws.{bad-empty, bad-more}
 use borrow.Author.Needs.{needs}
-use Rattle.decide.proofs.is_bad_path.Statement.{statement}
-use Rattle.decide.proofs.is_bad_path.Tie as tie
+use Rattle.request.proofs.is_bad_path.Statement.{statement}
+use Rattle.request.proofs.is_bad_path.Tie as tie
 
 returns : tie.Need-returns
 returns c = sym (bad-empty (now (c .before .before .args .path)) (c .if1 .taken))
