@@ -8,9 +8,9 @@ use pattern::PieceRead;
 use scan::begins_at;
 use scan::span;
 ghost use mathlib.Core.Path.{_≡_};
-ghost use Prim.Native.Nat.{_<_};
+ghost use lib.Dec.{ltb};
 ghost use lib.ListN.{drop};
-ghost use Rattle.scan.specs.Bytes.{span};
+ghost use Rattle.scan.specs.Bytes.{span, if_then_else_};
 ghost use Rattle.pattern.specs.Places.{partAt, itemAt, lone};
 ghost use Rattle.pattern.specs.Reads.{escapeOf, starOf, singleOf, classAfter, useAfter, Seen, seenItem, codeOf};
 
@@ -108,9 +108,9 @@ pub fn part_at(text: &[u8], a: usize, e: usize, i: usize) -> PartRead
     single(b)
 }
 
-// The code of a piece.
+// The code of a piece; 0 where it has no 32 bits.
 pub fn piece_code(p: PieceRead) -> u32
-    ensures { λ r. ⌜ (codeOf p < 4294967296 → r ≡ codeOf p) ⌝ }
+    ensures { λ r. ⌜ r ≡ (if ltb (codeOf p) 4294967296 then codeOf p else 0) ⌝ }
 {
     match p {
         PieceRead::Byte(b) => b as u32,

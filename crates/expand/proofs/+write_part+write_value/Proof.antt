@@ -19,6 +19,7 @@ use Rattle.sizes.proofs.Loops.{parts-more, parts-none}
 use Rattle.expand.specs.Write.{Asked}
 use Rattle.expand.proofs.Laws.{Writing, writing-none, writing-turn, writing-all, chosen-writes, named-le, named-choices, wrote-only}
 use native.Mathlib.Nat.{not-suc-le-zero}
+use borrow.Author.Tests.{lt-ltb}
 use borrow.Fn.Kinds.{In}
 use borrow.Fn.PlainCycle.{Measures, is, falls, and}
 use Rattle.expand.proofs.+write_part+write_value.{statement}
@@ -151,7 +152,7 @@ write-part-returns-2 t c =
     let c-piece-code = c .before .before .before .piece-code in
     λ q k.
     let f : codeOf (c-p .given .0 .0) ≤ 65536 + length (now (c-args .text)) = rw (c-p .given .1) at k in
-    let g : c-piece-code .result ≡ codeOf (c-p .given .0 .0) = c-piece-code .ensures (omega (arith, q .short)) in
+    let g : c-piece-code .result ≡ codeOf (c-p .given .0 .0) = c-piece-code .ensures ∙ rw (lt-ltb (codeOf (c-p .given .0 .0)) 4294967296 (omega (arith, q .short))) in
     wrote-only (now (c-args .text)) (partChoices (env (now (c-args .text)) (now (c-args .vars)) (c-args .n)) (seenPart (now (c-args .text)) (c-args .p))) (decode (now (c-args .text)) (c-piece-code .result) ∷ []) (c-args .d) (rw (c-p .given .1, g)) (q .within) (c .before .before .push .ensures (q .room) (now (c-args .text)))
 
 write-part-same-length-2 : (t : ℕ) → write-part-lts.Need-same-length-2 (part-claims t) (write-part-at t) write-part.Post

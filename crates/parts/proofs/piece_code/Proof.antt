@@ -1,5 +1,10 @@
 use native.Mathlib.Omega.{arith}
-use mathlib.Core.Path.{sym, ap}
+use mathlib.Core.Path.{_≡_, sym, ap}
+use Prim.Native.Nat.{ℕ, _<_}
+use lib.Dec.{ltb}
+use borrow.Author.Tests.{lt-ltb, le-ltb}
+use Rattle.scan.specs.Bytes.{if_then_else_}
+use Rattle.pattern.specs.declared.PieceRead.{PieceRead}
 use Rattle.pattern.specs.Reads.{codeOf}
 use borrow.Author.Needs.{needs}
 use Rattle.parts.proofs.piece_code.Statement.{statement}
@@ -29,23 +34,28 @@ cast-result-2 c = search needs
 add-result : tie.Need-add-result
 add-result c = search needs
 
+kept : (p : PieceRead) (k : ℕ) → k ≡ codeOf p → k < 4294967296 → k ≡ (if ltb (codeOf p) 4294967296 then codeOf p else 0)
+kept p k e h = rw (lt-ltb (codeOf p) 4294967296 (rw (← e) h)) e
+
 returns : tie.Need-returns
-returns c = λ h. sym (ap codeOf (c .before .before .p2 .given .1))
+returns c = kept (c .before .before .before .before .args .p) _ (sym (ap codeOf (c .before .before .p2 .given .1))) (omega arith)
 
 returns-2 : tie.Need-returns-2
-returns-2 c = λ h. sym (ap codeOf (c .before .p .given .1))
+returns-2 c = kept (c .before .before .before .args .p) _ (sym (ap codeOf (c .before .p .given .1))) (search needs)
 
 returns-3 : tie.Need-returns-3
-returns-3 c = λ h. sym (ap codeOf (c .enum-told .given .1))
+returns-3 c = kept (c .before .before .args .p) 256 (sym (ap codeOf (c .enum-told .given .1))) (omega arith)
 
 returns-4 : tie.Need-returns-4
-returns-4 c = λ h. sym (ap codeOf (c .enum-told2 .given .1))
+returns-4 c = kept (c .before .before .args .p) 257 (sym (ap codeOf (c .enum-told2 .given .1))) (omega arith)
 
 returns-5 : tie.Need-returns-5
-returns-5 c = λ h. sym (ap codeOf (c .enum-told3 .given .1))
+returns-5 c = kept (c .before .before .args .p) 258 (sym (ap codeOf (c .enum-told3 .given .1))) (omega arith)
 
 returns-6 : tie.Need-returns-6
-returns-6 c = λ h. absurd (omega (arith, h, ap codeOf (c .before .before .p2 .given .1)))
+returns-6 c =
+    let p = c .before .before .before .before .args .p in
+    rw (le-ltb (codeOf p) 4294967296 (omega (arith, ap codeOf (c .before .before .p2 .given .1))))
 
 pub piece-code-spec : {M : Type 1} → statement M
 piece-code-spec =
