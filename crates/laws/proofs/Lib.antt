@@ -1,4 +1,5 @@
 pub mod Joining
 pub mod Fixed
+pub mod Texts
 pub mod Parts
 pub mod Orders

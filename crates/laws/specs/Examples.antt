@@ -17,9 +17,10 @@ use Rattle.modes.specs.declared.Transition.{Transition}
 use Rattle.modes.specs.declared.Transition.the-variants as transition
 use Rattle.rule.specs.Rules.{Rule}
 use Rattle.profile.specs.Profiles.{Profile, File}
-use Rattle.findings.specs.Findings.{allows, denies}
+use Rattle.findings.specs.Findings.{allows, denies, Equal}
 use Rattle.decide.specs.Decide.{answerOf}
 use Rattle.laws.specs.Computed.{computed}
+use Rattle.laws.specs.Asked.{named, rulesOf, findingsOf, Given}
 use Rattle.laws.specs.Orders.{Accepted, SameRules, Added, none, kept, added, both, SameButRules, Holds, here, later}
 
 -- a rule without audit, owner and target
@@ -172,3 +173,19 @@ alone-holds = here (record { name = bytes "/p"; rules = readA ∷ [] }) refl ref
 pub beside-holds : Holds (bytes "/p") (readA ∷ []) (beside .profiles)
 unfolding computed
 beside-holds = later (record { name = bytes "/q"; rules = writeB ∷ [] }) refl (here (record { name = bytes "/p"; rules = readA ∷ [] }) refl refl)
+
+-- ---- equal findings of two texts, on other paths and with other owner marks
+
+abbrev reads : String
+reads = "/p { /a r, deny /* k, }"
+
+abbrev ownerReads : String
+ownerReads = "profile q { deny /b k, owner /** r, }"
+
+pub found-alike : Equal (findingsOf (bytes reads) (bytes "/p") (bytes "/a") false) (findingsOf (bytes ownerReads) (bytes "q") (bytes "/b") true)
+unfolding computed named rulesOf
+found-alike = record { allowed = refl; allowedAudit = refl; denied = refl; deniedAudit = refl; exact = λ m. refl; others = λ m. refl }
+
+pub found-answered : Given (answerOf (bytes reads) (bytes "/p") (bytes "/a") 33 false) × Given (answerOf (bytes ownerReads) (bytes "q") (bytes "/b") 33 true)
+unfolding computed
+found-answered = (refl, refl)

@@ -1,4 +1,5 @@
 pub mod Computed
 pub mod MarkedCases
+pub mod Asked
 pub mod Orders
 pub mod Examples
