@@ -5,6 +5,7 @@ use mathlib.Core.List.{List, [], _∷_}
 use mathlib.Core.Bool.{Bool, true, false, _||_, false≢true}
 use lib.ListN.{length}
 use lib.Dec.{ltb}
+use borrow.Author.Tests.{le-ltb}
 use Rattle.scan.specs.Bytes.{same}
 use Rattle.text.specs.Reading.{Reading, Read, Refused, lineOf}
 use Rattle.request.specs.Requests.{badPath, badAsked}
@@ -19,6 +20,7 @@ use Rattle.answer.specs.declared.Verdict.{Verdict}
 use Rattle.answer.specs.declared.Verdict.the-variants as verdict
 use Rattle.decide.specs.Decide.{answerIn, answerBy, answerOf}
 use Rattle.laws.specs.Asked.{named, rulesOf, findingsBy, findingsOf, Given}
+use Rattle.laws.specs.Orders.{Accepted, SameButRules}
 use Rattle.laws.proofs.Fixed.{answer-fixed}
 
 -- ---- the answer by the asked profile's rules
@@ -111,3 +113,52 @@ pub fixed : (s t m n p q : List ℕ) (asked : ℕ) (o u : Bool) → Given (answe
     → Equal (findingsOf s m p o) (findingsOf t n q u) → answerOf s m p asked o ≡ answerOf t n q asked u
 fixed s t m n p q asked o u a b e =
     answered s m p asked o a ∙ answer-fixed (findingsOf s m p o) (findingsOf t n q u) asked e ∙ sym (answered t n q asked u b)
+
+-- ---- two accepted texts
+
+-- an accepted text answers by the rules of the asked profile
+accepted : (s n path : List ℕ) (asked : ℕ) (owner : Bool) (f : File) → Accepted s f
+    → answerOf s n path asked owner
+    ≡ checked false (badPath path) (badAsked asked)
+    (orNone (named n (f .profiles)) (answerFrom (findings (finalSets [] (f .preamble)) (record { path = path; owner = owner }) (rulesOf n (f .profiles))) asked))
+accepted s n path asked owner f a =
+    whole s n path asked owner
+    ∙ rw (le-ltb 65535 (length s) (a .short), a .file)
+    (ap (checked false (badPath path) (badAsked asked)) (in-named (finalSets [] (f .preamble)) (record { path = path; owner = owner }) asked n (f .profiles)))
+
+-- what holds of the answers of two rule lists related by R, and of a refusal with itself, holds of the answers of two accepted texts
+module _ (R : List Rule → List Rule → Type 0) (S : Answer → Answer → Type 0) (s t n path : List ℕ) (asked : ℕ) (owner : Bool) (f g : File) (self : (number line : ℕ) → S (refusal number line) (refusal number line))
+    (step : (vs : List Variable) (xs ys : List Rule) → R xs ys → S (answerFrom (findings vs (record { path = path; owner = owner }) xs) asked) (answerFrom (findings vs (record { path = path; owner = owner }) ys) asked)) (a : Accepted s f) (b : Accepted t g) where
+  -- with the same preamble, of which both or neither hold the asked profile, and with rules related by R
+  pub one-name : f .preamble ≡ g .preamble → named n (f .profiles) ≡ named n (g .profiles)
+      → (named n (f .profiles) ≡ true → R (rulesOf n (f .profiles)) (rulesOf n (g .profiles)))
+      → S (answerOf s n path asked owner) (answerOf t n path asked owner)
+  one-name preamble names rules =
+      rw (accepted s n path asked owner f a, accepted t n path asked owner g b, preamble)
+      (checks (badPath path) (badAsked asked) (found (named n (f .profiles)) (named n (g .profiles)) names rules))
+    where
+      vs : List Variable
+      vs = finalSets [] (g .preamble)
+
+      of : List Rule → Answer
+      of rs = answerFrom (findings vs (record { path = path; owner = owner }) rs) asked
+
+      x : Answer
+      x = of (rulesOf n (f .profiles))
+
+      y : Answer
+      y = of (rulesOf n (g .profiles))
+
+      found : (d e : Bool) → d ≡ e → (d ≡ true → R (rulesOf n (f .profiles)) (rulesOf n (g .profiles))) → S (orNone d x) (orNone e y)
+      found true true h k = step vs (rulesOf n (f .profiles)) (rulesOf n (g .profiles)) (k refl)
+      found true false h k = absurd (false≢true (sym h))
+      found false true h k = absurd (false≢true h)
+      found false false h k = self 11 0
+
+      checks : (p q : Bool) {u v : Answer} → S u v → S (checked false p q u) (checked false p q v)
+      checks true q h = self 2 0
+      checks false true h = self 3 0
+      checks false false h = h
+
+  pub texts-by : SameButRules R f g → S (answerOf s n path asked owner) (answerOf t n path asked owner)
+  texts-by h = one-name (h .preamble) (h .names n) (h .rules n)

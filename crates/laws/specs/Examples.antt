@@ -1,12 +1,13 @@
 -- Pairs of texts that meet what the sentences of demand 3 suppose, so that none holds of nothing, and pairs that show where they stop.
 use Prim.Native.Nat.{ℕ}
 use Prim.Native.String.{String}
-use mathlib.Core.Path.{_≡_, refl}
+use mathlib.Core.Path.{_≡_, refl, ap, _∙_}
 use mathlib.Core.List.{List, [], _∷_, List·Memᴰ, List·Memᴰ·head, List·Memᴰ·tail, List·Memᴰ·not-nil, List·Memᴰ·cases-cons, Memᴰ·cast}
-use mathlib.Core.Bool.{Bool, true, false}
+use mathlib.Core.Bool.{Bool, true, false, _||_, false≢true}
 use mathlib.Core.Logic.{⊎-elim}
 use native.Mathlib.Omega.{arith}
-use Rattle.scan.specs.Bytes.{bytes}
+use Rattle.scan.specs.Bytes.{bytes, same}
+use Rattle.scan.proofs.Laws.{same-eq}
 use Rattle.perms.specs.Sets.{perms}
 use Rattle.modes.specs.declared.Kind.the-variants as kind
 use Rattle.modes.specs.declared.Fallback.the-variants as fallback
@@ -21,7 +22,7 @@ use Rattle.findings.specs.Findings.{allows, denies, Equal}
 use Rattle.decide.specs.Decide.{answerOf}
 use Rattle.laws.specs.Computed.{computed}
 use Rattle.laws.specs.Asked.{named, rulesOf, findingsOf, Given}
-use Rattle.laws.specs.Orders.{Accepted, SameRules, Added, none, kept, added, both, SameButRules, Holds, here, later}
+use Rattle.laws.specs.Orders.{Accepted, SameRules, Added, none, kept, added, SameButRules}
 
 -- a rule without audit, owner and target
 abbrev rule : (deny : Bool) → String → ℕ → Transition → Rule
@@ -37,6 +38,15 @@ px = record { kind = kind.Profile; fallback = fallback.Absent; scrubs = false }
 -- the file of one profile
 abbrev only : String → List Rule → File
 only name rules = record { preamble = []; profiles = record { name = bytes name; rules = rules } ∷ [] }
+
+-- two files of one profile of the same name
+one-profile : (R : List Rule → List Rule → Type 0) (name : String) {xs ys : List Rule} → R xs ys → SameButRules R (only name xs) (only name ys)
+unfolding named rulesOf
+one-profile R name {xs} {ys} h = record { preamble = refl; names = λ n. refl; rules = λ n e. go (same (bytes name) n) e }
+  where
+    go : (b : Bool) → (b || false) ≡ true → R (elim b as (λ _. List Rule) [ true ↦ xs | false ↦ [] ]) (elim b as (λ _. List Rule) [ true ↦ ys | false ↦ [] ])
+    go true e = h
+    go false e = absurd (false≢true e)
 
 -- ---- the same rules
 
@@ -68,14 +78,58 @@ in-more x xs ys m h r w = ⊎-elim (λ e. Memᴰ·cast e m) (λ k. h r k) (List�
 
 pub same-rules : SameButRules SameRules (only "/p" (readA ∷ writeB ∷ [])) (only "/p" (writeB ∷ readA ∷ readA ∷ []))
 same-rules =
+    one-profile SameRules "/p" (
+      in-more readA (writeB ∷ []) _ (List·Memᴰ·tail (List·Memᴰ·head refl)) (in-more writeB [] _ (List·Memᴰ·head refl) (in-none _)),
+      in-more writeB (readA ∷ readA ∷ []) _ (List·Memᴰ·tail (List·Memᴰ·head refl)) (in-more readA (readA ∷ []) _ (List·Memᴰ·head refl) (in-more readA [] _ (List·Memᴰ·head refl) (in-none _))),
+    )
+
+-- ---- the profiles in another order
+
+abbrev profileP : Profile
+profileP = record { name = bytes "/p"; rules = readA ∷ [] }
+
+abbrev profileQ : Profile
+profileQ = record { name = bytes "/q"; rules = writeB ∷ [] }
+
+abbrev pq : File
+pq = record { preamble = []; profiles = profileP ∷ profileQ ∷ [] }
+
+abbrev qp : File
+qp = record { preamble = []; profiles = profileQ ∷ profileP ∷ [] }
+
+pub pq-file : Accepted (bytes "/p { /a r, } /q { /b w, }") pq
+unfolding computed
+pq-file = record { short = omega arith; file = refl }
+
+pub qp-file : Accepted (bytes "profile /q { \"/b\" w, } /p { allow /a r, }") qp
+unfolding computed
+qp-file = record { short = omega arith; file = refl }
+
+pub other-order : SameButRules SameRules pq qp
+unfolding computed named rulesOf
+other-order =
     record {
       preamble = refl;
-      profiles = both (record { name = bytes "/p"; rules = readA ∷ writeB ∷ [] }) (record { name = bytes "/p"; rules = writeB ∷ readA ∷ readA ∷ [] }) refl (
-        in-more readA (writeB ∷ []) _ (List·Memᴰ·tail (List·Memᴰ·head refl)) (in-more writeB [] _ (List·Memᴰ·head refl) (in-none _)),
-        in-more writeB (readA ∷ readA ∷ []) _ (List·Memᴰ·tail (List·Memᴰ·head refl)) (in-more readA (readA ∷ []) _ (List·Memᴰ·head refl) (in-more readA [] _ (List·Memᴰ·head refl) (in-none _))),
-      )
-          none;
+      names = λ n. swapped (same (bytes "/p") n) (same (bytes "/q") n);
+      rules = λ n e. alike (same (bytes "/p") n) (same (bytes "/q") n) (λ h k. false≢true (ap (same (bytes "/p")) (same-eq (bytes "/q") n k) ∙ h));
     }
+  where
+    swapped : (p q : Bool) → (p || (q || false)) ≡ (q || (p || false))
+    swapped true true = refl
+    swapped true false = refl
+    swapped false true = refl
+    swapped false false = refl
+
+    self : (xs : List Rule) → SameRules xs xs
+    self xs = (λ r m. m, λ r m. m)
+
+    alike : (p q : Bool) → (p ≡ true → q ≡ true → ⊥)
+        → SameRules (elim p as (λ _. List Rule) [ true ↦ readA ∷ [] | false ↦ elim q as (λ _. List Rule) [ true ↦ writeB ∷ [] | false ↦ [] ] ])
+        (elim q as (λ _. List Rule) [ true ↦ writeB ∷ [] | false ↦ elim p as (λ _. List Rule) [ true ↦ readA ∷ [] | false ↦ [] ] ])
+    alike true true h = absurd (h refl refl)
+    alike true false h = self (readA ∷ [])
+    alike false true h = self (writeB ∷ [])
+    alike false false h = self []
 
 -- ---- deny rules added
 
@@ -94,12 +148,7 @@ unfolding computed
 barred-file = record { short = omega arith; file = refl }
 
 pub denied-more : SameButRules (Added denies) (only "/p" (opened ∷ [])) (only "/p" (barred ∷ opened ∷ barred ∷ []))
-denied-more =
-    record {
-      preamble = refl;
-      profiles = both (record { name = bytes "/p"; rules = opened ∷ [] }) (record { name = bytes "/p"; rules = barred ∷ opened ∷ barred ∷ [] }) refl
-          (added barred refl (kept opened (added barred refl none))) none;
-    }
+denied-more = one-profile (Added denies) "/p" (added barred refl (kept opened (added barred refl none)))
 
 -- ---- allow rules added
 
@@ -125,18 +174,10 @@ unfolding computed
 exact-file = record { short = omega arith; file = refl }
 
 pub allowed-more : SameButRules (Added allows) (only "/p" (runs ∷ [])) (only "/p" (runs ∷ inherits ∷ []))
-allowed-more =
-    record {
-      preamble = refl;
-      profiles = both (record { name = bytes "/p"; rules = runs ∷ [] }) (record { name = bytes "/p"; rules = runs ∷ inherits ∷ [] }) refl (kept runs (added inherits refl none)) none;
-    }
+allowed-more = one-profile (Added allows) "/p" (kept runs (added inherits refl none))
 
 pub allowed-before : SameButRules (Added allows) (only "/p" (runs ∷ [])) (only "/p" (exact ∷ runs ∷ []))
-allowed-before =
-    record {
-      preamble = refl;
-      profiles = both (record { name = bytes "/p"; rules = runs ∷ [] }) (record { name = bytes "/p"; rules = exact ∷ runs ∷ [] }) refl (added exact refl (kept runs none)) none;
-    }
+allowed-before = one-profile (Added allows) "/p" (added exact refl (kept runs none))
 
 abbrev asks : String → Execute
 asks text = answerOf (bytes text) (bytes "/p") (bytes "/bin/cat") 64 false .execute
@@ -166,13 +207,13 @@ pub beside-file : Accepted (bytes "/q { /b w, } profile /p { /a r, }") beside
 unfolding computed
 beside-file = record { short = omega arith; file = refl }
 
-pub alone-holds : Holds (bytes "/p") (readA ∷ []) (alone .profiles)
-unfolding computed
-alone-holds = here (record { name = bytes "/p"; rules = readA ∷ [] }) refl refl
+pub both-hold : (named (bytes "/p") (alone .profiles) ≡ true) × (named (bytes "/p") (beside .profiles) ≡ true)
+unfolding computed named
+both-hold = (refl, refl)
 
-pub beside-holds : Holds (bytes "/p") (readA ∷ []) (beside .profiles)
-unfolding computed
-beside-holds = later (record { name = bytes "/q"; rules = writeB ∷ [] }) refl (here (record { name = bytes "/p"; rules = readA ∷ [] }) refl refl)
+pub both-alike : rulesOf (bytes "/p") (alone .profiles) ≡ rulesOf (bytes "/p") (beside .profiles)
+unfolding computed rulesOf
+both-alike = refl
 
 -- ---- equal findings of two texts, on other paths and with other owner marks
 
