@@ -3,3 +3,4 @@ pub mod Fixed
 pub mod Texts
 pub mod Parts
 pub mod Orders
+pub mod Written

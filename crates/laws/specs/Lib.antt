@@ -2,4 +2,5 @@ pub mod Computed
 pub mod MarkedCases
 pub mod Asked
 pub mod Orders
+pub mod Written
 pub mod Examples

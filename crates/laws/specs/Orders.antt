@@ -20,7 +20,8 @@ pub record Accepted (text : List ℕ) (f : File) : Type 0 where
   pub file : fileOf text ≡ Read f
 
 -- "If each profile holds the same rules, in whatever order and each however often": a rule stands in one exactly when it stands in
--- the other. Rules are equal when their bytes are: "quotes, a written allow and the order or repeating of letters in PERMS aside".
+-- the other. Rules whose tokens are the same, quotes, a written allow and the order or repeating of letters in PERMS aside, are equal
+-- (proofs/Written.antt).
 abbrev pub SameRules : List Rule → List Rule → Type 0
 SameRules xs ys = ((r : Rule) → List·Memᴰ r xs → List·Memᴰ r ys) × ((r : Rule) → List·Memᴰ r ys → List·Memᴰ r xs)
 
