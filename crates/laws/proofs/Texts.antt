@@ -21,7 +21,9 @@ use Rattle.answer.specs.declared.Verdict.the-variants as verdict
 use Rattle.decide.specs.Decide.{answerIn, answerBy, answerOf}
 use Rattle.laws.specs.Asked.{named, rulesOf, findingsBy, findingsOf, Given}
 use Rattle.laws.specs.Orders.{Accepted, SameButRules}
+use Rattle.matcher.proofs.Laws.{iff}
 use Rattle.laws.proofs.Fixed.{answer-fixed}
+use Rattle.laws.proofs.Names.{found, member-named, only-one}
 
 -- ---- the answer by the asked profile's rules
 
@@ -126,6 +128,25 @@ accepted s n path asked owner f a =
     ∙ rw (le-ltb 65535 (length s) (a .short), a .file)
     (ap (checked false (badPath path) (badAsked asked)) (in-named (finalSets [] (f .preamble)) (record { path = path; owner = owner }) asked n (f .profiles)))
 
+-- the same profile names, in whatever order, and the rules of each name
+module _ (R : List Rule → List Rule → Type 0) (f g : File) (h : SameButRules R f g) (n : List ℕ) where
+  names-same : named n (f .profiles) ≡ named n (g .profiles)
+  names-same =
+      iff (named n (f .profiles)) (named n (g .profiles))
+      (λ e. let w = found n (f .profiles) e in
+      let q = h .there (w .0) (w .1) in
+      subst (λ (m : List ℕ). named m (g .profiles) ≡ true) (sym (q .2) ∙ w .2) (member-named (q .0) (g .profiles) (q .1)))
+      (λ e. let w = found n (g .profiles) e in
+      let p = h .back (w .0) (w .1) in
+      subst (λ (m : List ℕ). named m (f .profiles) ≡ true) (p .2 ∙ w .2) (member-named (p .0) (f .profiles) (p .1)))
+
+  rules-related : (t : List ℕ) → Accepted t g → named n (f .profiles) ≡ true → R (rulesOf n (f .profiles)) (rulesOf n (g .profiles))
+  rules-related t b e =
+      let w = found n (f .profiles) e in
+      let q = h .there (w .0) (w .1) in
+      let k : q .0 .rules ≡ rulesOf n (g .profiles) = sym (only-one t g (b .file) (q .0) (q .1)) ∙ ap (λ (m : List ℕ). rulesOf m (g .profiles)) (sym (q .2) ∙ w .2) in
+      subst (λ (xs : List Rule). R xs (rulesOf n (g .profiles))) (sym (w .3)) (subst (λ (ys : List Rule). R (w .0 .rules) ys) k (q .3))
+
 -- what holds of the answers of two rule lists related by R, and of a refusal with itself, holds of the answers of two accepted texts
 module _ (R : List Rule → List Rule → Type 0) (S : Answer → Answer → Type 0) (s t n path : List ℕ) (asked : ℕ) (owner : Bool) (f g : File) (self : (number line : ℕ) → S (refusal number line) (refusal number line))
     (step : (vs : List Variable) (xs ys : List Rule) → R xs ys → S (answerFrom (findings vs (record { path = path; owner = owner }) xs) asked) (answerFrom (findings vs (record { path = path; owner = owner }) ys) asked)) (a : Accepted s f) (b : Accepted t g) where
@@ -161,4 +182,4 @@ module _ (R : List Rule → List Rule → Type 0) (S : Answer → Answer → Typ
       checks false false h = h
 
   pub texts-by : SameButRules R f g → S (answerOf s n path asked owner) (answerOf t n path asked owner)
-  texts-by h = one-name (h .preamble) (h .names n) (h .rules n)
+  texts-by h = one-name (h .preamble) (names-same R f g h n) (rules-related R f g h n t b)

@@ -26,6 +26,7 @@ use Rattle.pattern.specs.Faults.{patternFault}
 use Rattle.rule_tail.specs.Tails.{Permissions, Target, takesTarget, carriedBy, permsAt, targetAt, commaAt}
 use Rattle.rule.specs.Rules.{Qualifiers, RuleRead, qualifiersAt, patternAt, ruleFrom}
 use Rattle.statement.specs.Steps.{Step, More, Close, ruleAt}
+use Rattle.laws.proofs.Steps.{step, unless, inner}
 use Rattle.laws.specs.Written.{Written, wordIf, wordsBy, qualifierWords, Targets, targetsAt, writtenAt, SameTokens, says, permsBy, transitionBy, targetBy, meaning}
 
 -- ---- the same tokens say the same
@@ -51,22 +52,6 @@ same-meaning v w h = λ i.
   where
     deny : some (same (bytes "deny")) (v .qualifiers) ≡ some (same (bytes "deny")) (w .qualifiers)
     deny = h .qualifiers (bytes "deny") refl
-
--- ---- reading step by step
-
--- what was read was read in its first step
-step : {A B : Type 0} (x : Reading A) (k : A → Reading B) (b : B) → (x >>= k) ≡ Read b → (a : A) × (x ≡ Read a) × (k a ≡ Read b)
-step (Read a) k b e = (a, refl, e)
-step (Refused n p) k b e = let z : _≡_ {A = ℕ} 0 1 = cc in absurd (omega arith)
-
--- and was not refused
-unless : {B : Type 0} (c : Bool) (n p : ℕ) (x : Reading B) (b : B) → (refuseIf c n p >>= λ _. x) ≡ Read b → x ≡ Read b
-unless true n p x b e = let z : _≡_ {A = ℕ} 0 1 = cc in absurd (omega arith)
-unless false n p x b e = e
-
--- what was read is one thing
-inner : {A : Type 0} {a b : A} → Read a ≡ Read b → b ≡ a
-inner e = cc
 
 -- ---- the words before the pattern
 

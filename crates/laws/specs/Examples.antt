@@ -2,14 +2,13 @@
 use Prim.Native.Nat.{ℕ}
 use Prim.Native.Char.{code}
 use Prim.Native.String.{String}
-use mathlib.Core.Path.{_≡_, refl, ap, _∙_}
-use mathlib.Core.List.{List, [], _∷_, List·Memᴰ, List·Memᴰ·head, List·Memᴰ·tail, List·Memᴰ·not-nil, List·Memᴰ·cases-cons, Memᴰ·cast}
-use mathlib.Core.Bool.{Bool, true, false, _||_, false≢true}
+use mathlib.Core.Path.{_≡_, refl, sym, ap, subst}
+use mathlib.Core.List.{List, [], _∷_, List·Memᴰ, List·Memᴰ·head, List·Memᴰ·tail, List·Memᴰ·not-nil, List·Memᴰ·cases-cons, List·Memᴰ·eq-of-singleton, Memᴰ·cast}
+use mathlib.Core.Bool.{Bool, true, false, _||_}
 use mathlib.Core.Logic.{⊎-elim}
 use native.Mathlib.Omega.{arith}
 use lib.Dec.{eqb}
-use Rattle.scan.specs.Bytes.{bytes, same}
-use Rattle.scan.proofs.Laws.{same-eq}
+use Rattle.scan.specs.Bytes.{bytes}
 use Rattle.perms.specs.Sets.{perms}
 use Rattle.modes.specs.declared.Kind.the-variants as kind
 use Rattle.modes.specs.declared.Fallback.the-variants as fallback
@@ -43,14 +42,16 @@ px = record { kind = kind.Profile; fallback = fallback.Absent; scrubs = false }
 abbrev only : String → List Rule → File
 only name rules = record { preamble = []; profiles = record { name = bytes name; rules = rules } ∷ [] }
 
--- two files of one profile of the same name
+-- two files of one profile, of the same name
 one-profile : (R : List Rule → List Rule → Type 0) (name : String) {xs ys : List Rule} → R xs ys → SameButRules R (only name xs) (only name ys)
-unfolding named rulesOf
-one-profile R name {xs} {ys} h = record { preamble = refl; names = λ n. refl; rules = λ n e. go (same (bytes name) n) e }
-  where
-    go : (b : Bool) → (b || false) ≡ true → R (elim b as (λ _. List Rule) [ true ↦ xs | false ↦ [] ]) (elim b as (λ _. List Rule) [ true ↦ ys | false ↦ [] ])
-    go true e = h
-    go false e = absurd (false≢true e)
+one-profile R name {xs} {ys} h =
+    record {
+      preamble = refl;
+      there = λ p m.
+          let e = List·Memᴰ·eq-of-singleton m in
+          (record { name = bytes name; rules = ys }, List·Memᴰ·head refl, ap (λ (x : Profile). x .name) e, subst (λ (x : Profile). R (x .rules) ys) (sym e) h);
+      back = λ q m. (record { name = bytes name; rules = xs }, List·Memᴰ·head refl, ap (λ (x : Profile). x .name) (sym (List·Memᴰ·eq-of-singleton m)));
+    }
 
 -- ---- the same rules
 
@@ -110,30 +111,15 @@ unfolding computed
 qp-file = record { short = omega arith; file = refl }
 
 pub other-order : SameButRules SameRules pq qp
-unfolding computed named rulesOf
 other-order =
     record {
       preamble = refl;
-      names = λ n. swapped (same (bytes "/p") n) (same (bytes "/q") n);
-      rules = λ n e. alike (same (bytes "/p") n) (same (bytes "/q") n) (λ h k. false≢true (ap (same (bytes "/p")) (same-eq (bytes "/q") n k) ∙ h));
+      there = λ p m. (p, swapped p profileP profileQ m, refl, (λ r k. k, λ r k. k));
+      back = λ q m. (q, swapped q profileQ profileP m, refl);
     }
   where
-    swapped : (p q : Bool) → (p || (q || false)) ≡ (q || (p || false))
-    swapped true true = refl
-    swapped true false = refl
-    swapped false true = refl
-    swapped false false = refl
-
-    self : (xs : List Rule) → SameRules xs xs
-    self xs = (λ r m. m, λ r m. m)
-
-    alike : (p q : Bool) → (p ≡ true → q ≡ true → ⊥)
-        → SameRules (elim p as (λ _. List Rule) [ true ↦ readA ∷ [] | false ↦ elim q as (λ _. List Rule) [ true ↦ writeB ∷ [] | false ↦ [] ] ])
-        (elim q as (λ _. List Rule) [ true ↦ writeB ∷ [] | false ↦ elim p as (λ _. List Rule) [ true ↦ readA ∷ [] | false ↦ [] ] ])
-    alike true true h = absurd (h refl refl)
-    alike true false h = self (readA ∷ [])
-    alike false true h = self (writeB ∷ [])
-    alike false false h = self []
+    swapped : (p x y : Profile) → List·Memᴰ p (x ∷ y ∷ []) → List·Memᴰ p (y ∷ x ∷ [])
+    swapped p x y m = ⊎-elim (λ e. List·Memᴰ·tail (List·Memᴰ·head e)) (λ k. List·Memᴰ·head (List·Memᴰ·eq-of-singleton k)) (List·Memᴰ·cases-cons m)
 
 -- ---- deny rules added
 

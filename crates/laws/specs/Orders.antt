@@ -10,9 +10,8 @@ use Rattle.modes.specs.declared.Mode.{Mode}
 use Rattle.modes.specs.declared.Execute.the-variants.{Conflict, ByMode}
 use Rattle.text.specs.Reading.{Read}
 use Rattle.rule.specs.Rules.{Rule}
-use Rattle.profile.specs.Profiles.{File, fileOf}
+use Rattle.profile.specs.Profiles.{Profile, File, fileOf}
 use Rattle.answer.specs.declared.Answer.{Answer}
-use Rattle.laws.specs.Asked.{named, rulesOf}
 
 -- a text is accepted and means this file
 pub record Accepted (text : List ℕ) (f : File) : Type 0 where
@@ -31,12 +30,12 @@ pub data Added (p : Rule → Bool) : List Rule → List Rule → Type 0 where
   kept : {xs ys : List Rule} (r : Rule) → Added p xs ys → Added p (r ∷ xs) (r ∷ ys)
   added : {xs ys : List Rule} (r : Rule) → p r ≡ true → Added p xs ys → Added p xs (r ∷ ys)
 
--- "Files are the same but for their rules when preamble and profile names are", these in whatever order; the rules of each name are
--- related by R
+-- "Files are the same but for their rules when preamble and profile names are": each profile of the one has one of its name in the other,
+-- in whatever order they stand; the rules of the two are related by R
 pub record SameButRules (R : List Rule → List Rule → Type 0) (f g : File) : Type 0 where
   pub preamble : f .preamble ≡ g .preamble
-  pub names : (n : List ℕ) → named n (f .profiles) ≡ named n (g .profiles)
-  pub rules : (n : List ℕ) → named n (f .profiles) ≡ true → R (rulesOf n (f .profiles)) (rulesOf n (g .profiles))
+  pub there : (p : Profile) → List·Memᴰ p (f .profiles) → (q : Profile) × List·Memᴰ q (g .profiles) × (p .name ≡ q .name) × R (p .rules) (q .rules)
+  pub back : (q : Profile) → List·Memᴰ q (g .profiles) → (p : Profile) × List·Memᴰ p (f .profiles) × (p .name ≡ q .name)
 
 -- ---- what demand 3 says of two answers, the one before and the one after
 
