@@ -6,3 +6,4 @@ pub mod Texts
 pub mod Parts
 pub mod Orders
 pub mod Written
+pub mod Tokens

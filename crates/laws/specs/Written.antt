@@ -1,7 +1,7 @@
 -- The rules of a text as they are written, token by token, and when two rules are the same.
-use Prim.Native.Nat.{ℕ, _+_}
+use Prim.Native.Nat.{ℕ, zero, suc, _+_}
 use mathlib.Core.Path.{_≡_}
-use mathlib.Core.List.{List, [], _∷_, _++_}
+use mathlib.Core.List.{List, [], _∷_, _++_, map, List·Memᴰ}
 use mathlib.Core.Bool.{Bool, true, false}
 use Rattle.scan.specs.Bytes.{bytes, same, holds, some, if_then_else_}
 use Rattle.perms.specs.Sets.{perms}
@@ -16,6 +16,11 @@ use Rattle.blanks.specs.Blanks.{standing, standsAt}
 use Rattle.tokens.specs.Tokens.{Token, comma, noStop, tokenAt, wanted}
 use Rattle.rule_tail.specs.Tails.{commaAt}
 use Rattle.rule.specs.Rules.{Rule, Optional, optional, qualifiersAt}
+use Rattle.preamble.specs.Variables.{Assignment}
+use Rattle.preamble.specs.Preamble.{preambleAt}
+use Rattle.heads.specs.Heads.{nameAt, openAt}
+use Rattle.profile.specs.Profiles.{Profile, File, ends}
+use Rattle.laws.specs.Orders.{Accepted}
 
 -- ---- the tokens of a rule
 
@@ -108,3 +113,86 @@ meaning w =
       transition = transitionBy said;
       target = targetBy (w .target);
     }
+
+-- ---- a whole text
+
+pub record WrittenRules : Type 0 where
+  pub rules : List Written
+  pub next : ℕ
+
+-- the rules from a place on, at most so many, up to the } that ends the profile
+unfoldable pub rulesWritten : (left : ℕ) → List ℕ → ℕ → Reading WrittenRules
+rulesWritten zero s at =
+    elim (standsAt (bytes "}") s at) [
+      | true ↦ Read (record { rules = []; next = standing s at + 1 })
+      | false ↦ Refused 9 (standing s at)
+    ]
+rulesWritten (suc left) s at =
+    elim (standsAt (bytes "}") s at) [
+      | true ↦ Read (record { rules = []; next = standing s at + 1 })
+      | false ↦ do
+        w ← writtenAt s at
+        more ← rulesWritten left s (w .next)
+        Read (record { rules = w ∷ more .rules; next = more .next })
+    ]
+
+pub record WrittenProfile : Type 0 where
+  pub name : List ℕ
+  pub rules : List Written
+
+-- the profiles from a place on, at most so many
+unfoldable pub profilesWritten : (left : ℕ) → List ℕ → ℕ → Reading (List WrittenProfile)
+profilesWritten zero s at = Read []
+profilesWritten (suc left) s at =
+    elim (ends (tokenAt noStop s at)) [
+      | true ↦ Read []
+      | false ↦ do
+        t ← nameAt s at
+        next ← openAt s (t .next)
+        rs ← rulesWritten 512 s next
+        more ← profilesWritten left s (rs .next)
+        Read (record { name = t .content; rules = rs .rules } ∷ more)
+    ]
+
+-- "The preamble is the assignments in order."
+pub record WrittenFile : Type 0 where
+  pub preamble : List Assignment
+  pub profiles : List WrittenProfile
+
+unfoldable pub writtenOf : List ℕ → Reading WrittenFile
+writtenOf s = do
+  p ← preambleAt 512 [] s 0
+  ps ← profilesWritten 32 s (p .next)
+  Read (record { preamble = p .assignments; profiles = ps })
+
+-- what a text means, by its tokens
+abbrev pub profileBy : WrittenProfile → Profile
+profileBy w = record { name = w .name; rules = map meaning (w .rules) }
+
+abbrev pub fileBy : WrittenFile → File
+fileBy w = record { preamble = w .preamble; profiles = map profileBy (w .profiles) }
+
+-- ---- texts that are the same but for their rules
+
+-- an accepted text, and its tokens
+pub record AcceptedAs (text : List ℕ) (v : WrittenFile) : Type 0 where
+  pub file : File
+  pub accepted : Accepted text file
+  pub written : writtenOf text ≡ Read v
+
+-- "each profile holds the same rules, in whatever order and each however often"
+pub record SameWritten (vs ws : List Written) : Type 0 where
+  pub there : (v : Written) → List·Memᴰ v vs → (w : Written) × List·Memᴰ w ws × SameTokens v w
+  pub back : (w : Written) → List·Memᴰ w ws → (v : Written) × List·Memᴰ v vs × SameTokens v w
+
+-- "deny rules added", "allow rules added": rules with the word deny or without it, wherever; "the others stay in their order"
+pub data AddedWritten (deny : Bool) : List Written → List Written → Type 0 where
+  none : AddedWritten deny [] []
+  kept : {vs ws : List Written} (v w : Written) → SameTokens v w → AddedWritten deny vs ws → AddedWritten deny (v ∷ vs) (w ∷ ws)
+  added : {vs ws : List Written} (w : Written) → some (same (bytes "deny")) (w .qualifiers) ≡ deny → AddedWritten deny vs ws → AddedWritten deny vs (w ∷ ws)
+
+-- "Files are the same but for their rules when preamble and profile names are": as SameButRules says it, by tokens
+pub record SameButWritten (R : List Written → List Written → Type 0) (v w : WrittenFile) : Type 0 where
+  pub preamble : v .preamble ≡ w .preamble
+  pub there : (p : WrittenProfile) → List·Memᴰ p (v .profiles) → (q : WrittenProfile) × List·Memᴰ q (w .profiles) × (p .name ≡ q .name) × R (p .rules) (q .rules)
+  pub back : (q : WrittenProfile) → List·Memᴰ q (w .profiles) → (p : WrittenProfile) × List·Memᴰ p (v .profiles) × (p .name ≡ q .name)
