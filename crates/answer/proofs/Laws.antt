@@ -11,13 +11,15 @@ use lib.ListN.{length, replicate, set, getD, take, length-take}
 use lib.Seq.{set-at, take-suc, take-all}
 use borrow.Author.Tests.{eqb-true}
 use Rattle.scan.specs.Bytes.{every, if_then_else_}
+use Rattle.scan.proofs.Bools.{and-left}
 use Rattle.perms.specs.Sets.{has, setOf, perms, without, within}
 use Rattle.perms.specs.declared.Perms.{Perms}
 use Rattle.modes.specs.declared.Execute.{Execute}
 use Rattle.modes.specs.declared.Execute.the-variants.{NotAsked, Denied, Conflict, ByMode}
-use Rattle.perms.proofs.Laws.{and-left, has-and, has-or, has-set, has-within, has-without, set-eq, set-lt, within-has}
-use Rattle.findings.specs.Findings.{Move, Findings, Choice, None, Single, Several, choice, sameMove}
-use Rattle.answer.specs.Answers.{preferred, x, executeOf, grants, isMode, moveOf, namedBy, records, targetOf}
+use Rattle.perms.proofs.Laws.{has-and, has-or, has-set, has-within, has-without, set-eq, set-lt, within-has}
+use Rattle.family.specs.Members.{preferred, Choice, None, Single, Several, choice}
+use Rattle.findings.specs.Findings.{Move, Findings, sameMove}
+use Rattle.answer.specs.Answers.{x, executeOf, grants, isMode, moveOf, namedBy, records, targetOf}
 use Rattle.answer.specs.Parts.{Granted, Recorded, executeBy, firstOf, targetBy}
 
 -- ---- the sets {x} and of all permissions
@@ -50,20 +52,20 @@ masked-lt a = omega (arith, and-le-r a 127)
 -- ---- execute
 
 -- of a set that is not empty the choice is not None
-first-choice : (es os : List Move) → firstOf (choice es) (choice os) ≡ choice (preferred es os)
+first-choice : (es os : List Move) → firstOf (choice sameMove es) (choice sameMove os) ≡ choice sameMove (preferred es os)
 unfolding choice
 first-choice [] os = refl
 first-choice (m ∷ ms) os = go (every (sameMove m) ms)
   where
-    go : (b : Bool) → firstOf (if b then Single m else Several) (choice os) ≡ (if b then Single m else Several)
+    go : (b : Bool) → firstOf (if b then Single m else Several) (choice sameMove os) ≡ (if b then Single m else Several)
     go true = refl
     go false = refl
 
-pub move-is : (f : Findings) (e o : Choice) → e ≡ choice (f .exact) → o ≡ choice (f .others) → firstOf e o ≡ moveOf f
+pub move-is : (f : Findings) (e o : Choice Move) → e ≡ choice sameMove (f .exact) → o ≡ choice sameMove (f .others) → firstOf e o ≡ moveOf f
 unfolding moveOf
 move-is f e o p q = rw (p, q) (first-choice (f .exact) (f .others))
 
-pub named-target : (e : Execute) (c : Choice) → targetBy (isMode e) c ≡ namedBy e c
+pub named-target : (e : Execute) (c : Choice Move) → targetBy (isMode e) c ≡ namedBy e c
 named-target NotAsked c = refl
 named-target Denied c = refl
 named-target Conflict c = refl
@@ -137,7 +139,7 @@ module _ (f : Findings) (asked wanted : ℕ) (e : wanted ≡ bitAnd asked 127) w
   small : wanted < 128
   small = omega (arith, masked-lt asked)
 
-  pub execute-is : (denied : ℕ) (c : Choice) → denied ≡ f .denied → c ≡ moveOf f → executeBy wanted denied c ≡ executeOf f asked
+  pub execute-is : (denied : ℕ) (c : Choice Move) → denied ≡ f .denied → c ≡ moveOf f → executeBy wanted denied c ≡ executeOf f asked
   unfolding executeBy executeOf
   execute-is denied c p q = rw (same x (omega arith), p, q)
 

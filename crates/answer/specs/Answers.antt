@@ -8,20 +8,16 @@ use Rattle.scan.specs.Bytes.{if_then_else_}
 use Rattle.perms.specs.Sets.{has, setOf, perms}
 use Rattle.modes.specs.declared.Execute.{Execute}
 use Rattle.modes.specs.declared.Execute.the-variants.{NotAsked, Denied, Conflict, ByMode}
-use Rattle.findings.specs.Findings.{Move, Findings, Choice, None, Single, Several, choice}
+use Rattle.family.specs.Members.{preferred, Choice, None, Single, Several, choice}
+use Rattle.findings.specs.Findings.{Move, Findings, sameMove}
 use Rattle.answer.specs.declared.Answer.{Answer}
 use Rattle.answer.specs.declared.Target.{Target}
 use Rattle.answer.specs.declared.Verdict.the-variants as verdict
 
 -- ---- execute
 
--- "take the exact transitions if any, else the others"
-abbrev pub preferred : (exact others : List Move) → List Move
-preferred [] others = others
-preferred (m ∷ ms) others = m ∷ ms
-
 -- "None, or x denied: denied. One: that one. More: conflict. Denial comes before conflict."
-abbrev pub chosen : (denied : Bool) → Choice → Execute
+abbrev pub chosen : (denied : Bool) → Choice Move → Execute
 chosen true c = Denied
 chosen false None = Denied
 chosen false (Single m) = ByMode (m .mode)
@@ -31,8 +27,9 @@ chosen false Several = Conflict
 abbrev pub x : ℕ
 x = 6
 
-unfoldable pub moveOf : Findings → Choice
-moveOf f = choice (preferred (f .exact) (f .others))
+-- "take the exact transitions if any, else the others"
+unfoldable pub moveOf : Findings → Choice Move
+moveOf f = choice sameMove (preferred (f .exact) (f .others))
 
 unfoldable pub executeOf : Findings → (asked : ℕ) → Execute
 executeOf f asked = if has asked x then chosen (has (f .denied) x) (moveOf f) else NotAsked
@@ -62,7 +59,7 @@ abbrev pub targetOf : List ℕ → Target
 targetOf s = record { bytes = s ++ replicate (255 - length s) 0; len = length s }
 
 -- a target is named only with a mode
-abbrev pub namedBy : Execute → Choice → List ℕ
+abbrev pub namedBy : Execute → Choice Move → List ℕ
 namedBy NotAsked c = []
 namedBy Denied c = []
 namedBy Conflict c = []

@@ -8,21 +8,22 @@ use Rattle.scan.specs.Bytes.{if_then_else_}
 use Rattle.perms.specs.Sets.{has}
 use Rattle.modes.specs.declared.Execute.{Execute}
 use Rattle.modes.specs.declared.Execute.the-variants.{NotAsked}
-use Rattle.findings.specs.Findings.{Choice, None, Single, Several}
+use Rattle.family.specs.Members.{Choice, None, Single, Several}
+use Rattle.findings.specs.Findings.{Move}
 use Rattle.answer.specs.Answers.{chosen, x}
 
 -- the first choice unless it has no member, else the second
-abbrev pub firstOf : Choice → Choice → Choice
+abbrev pub firstOf : Choice Move → Choice Move → Choice Move
 firstOf None c = c
 firstOf (Single m) c = Single m
 firstOf Several c = Several
 
 -- what x is answered
-unfoldable pub executeBy : (asked denied : ℕ) → Choice → Execute
+unfoldable pub executeBy : (asked denied : ℕ) → Choice Move → Execute
 executeBy asked denied c = if has asked x then chosen (has denied x) c else NotAsked
 
 -- the target that a choice names
-abbrev pub targetBy : (mode : Bool) → Choice → List ℕ
+abbrev pub targetBy : (mode : Bool) → Choice Move → List ℕ
 targetBy false c = []
 targetBy true None = []
 targetBy true (Single m) = m .target

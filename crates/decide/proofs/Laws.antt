@@ -18,9 +18,10 @@ use Rattle.statement.specs.Steps.{rulesFrom}
 use Rattle.profile.specs.Profiles.{File, fileOf}
 use Rattle.profile.specs.Places.{Judged, Accepted, Rejected, judgedOf, profilesFrom, seenFile}
 use Rattle.profile.specs.declared.FileRead.{FileRead}
-use Rattle.findings.specs.Findings.{Access, Move, Findings, Single, findings}
+use Rattle.family.specs.Members.{preferred}
+use Rattle.findings.specs.Findings.{Access, Move, Findings, findings}
 use Rattle.weigh.proofs.Sound.{All, ShortMove, choice-short, rules-short}
-use Rattle.answer.specs.Answers.{answerFrom, moveOf, preferred, refusal}
+use Rattle.answer.specs.Answers.{answerFrom, moveOf, refusal}
 use Rattle.answer.specs.Short.{Short}
 use Rattle.answer.specs.declared.Answer.{Answer}
 use Rattle.request.specs.Requests.{badAsked, badPath, doubled}

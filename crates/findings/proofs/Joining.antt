@@ -10,32 +10,18 @@ use Rattle.perms.specs.Sets.{has, setOf}
 use Rattle.perms.proofs.Laws.{has-or, has-set, set-eq, set-lt}
 use Rattle.pattern.specs.Expansions.{Variable}
 use Rattle.rule.specs.Rules.{Rule}
-use Rattle.findings.specs.Findings.{Access, Move, allows, audited, denies, exactly, otherwise, applies, those, bits, moveBy, moves, findings, join}
-
-those-append : (p : Rule → Bool) (xs ys : List Rule) → those p (xs ++ ys) ≡ those p xs ++ those p ys
-unfolding those
-those-append p [] ys = refl
-those-append p (r ∷ xs) ys = go (p r) (those-append p xs ys)
-  where
-    go : (b : Bool) → those p (xs ++ ys) ≡ those p xs ++ those p ys
-        → (elim b as (λ _. List Rule) [ true ↦ r ∷ those p (xs ++ ys) | false ↦ those p (xs ++ ys) ])
-        ≡ (elim b as (λ _. List Rule) [ true ↦ r ∷ those p xs | false ↦ those p xs ]) ++ those p ys
-    go true e = ap (λ (l : List Rule). r ∷ l) e
-    go false e = e
+use Rattle.family.specs.Members.{those, all}
+use Rattle.family.proofs.Lists.{those-append, all-append}
+use Rattle.findings.specs.Findings.{Access, Move, allows, audited, denies, exactly, otherwise, applies, bits, moveBy, moves, findings, join}
 
 moves-append : (p : Rule → Bool) (xs ys : List Rule) → moves p (xs ++ ys) ≡ moves p xs ++ moves p ys
 unfolding moves
-moves-append p [] ys = refl
-moves-append p (r ∷ xs) ys = go (p r) (moves-append p xs ys)
-  where
-    go : (b : Bool) → moves p (xs ++ ys) ≡ moves p xs ++ moves p ys
-        → (elim b as (λ _. List Move) [ true ↦ moveBy (r .transition) (r .target) ++ moves p (xs ++ ys) | false ↦ moves p (xs ++ ys) ])
-        ≡ (elim b as (λ _. List Move) [ true ↦ moveBy (r .transition) (r .target) ++ moves p xs | false ↦ moves p xs ]) ++ moves p ys
-    go true e = ap (λ (l : List Move). moveBy (r .transition) (r .target) ++ l) e ∙ sym (append-assoc (moveBy (r .transition) (r .target)) (moves p xs) (moves p ys))
-    go false e = e
+moves-append p xs ys =
+    let shows : Rule → List Move = λ r. moveBy (r .transition) (r .target) in
+    ap (all shows) (those-append p xs ys) ∙ all-append shows (those p xs) (those p ys)
 
 -- a set of what either holds of
-set-or : (n : ℕ) (f g : ℕ → Bool) → setOf n (λ k. f k || g k) ≡ bitOr (setOf n f) (setOf n g)
+pub set-or : (n : ℕ) (f g : ℕ → Bool) → setOf n (λ k. f k || g k) ≡ bitOr (setOf n f) (setOf n g)
 set-or n f g =
     sym (set-eq n (bitOr (setOf n f) (setOf n g)) (λ k. f k || g k) (or-lt n (setOf n f) (setOf n g) (set-lt n f) (set-lt n g))
     (λ k h. has-or (setOf n f) (setOf n g) k ∙ ap₂ _||_ (has-set n f k h) (has-set n g k h)))

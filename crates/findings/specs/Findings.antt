@@ -4,7 +4,8 @@ use mathlib.Core.Path.{_≡_}
 use mathlib.Core.List.{List, [], _∷_, _++_}
 use mathlib.Core.Bool.{Bool, true, false, not, _||_, _&&_}
 use lib.Bits.{bitOr}
-use Rattle.scan.specs.Bytes.{every, same, some, if_then_else_}
+use Rattle.scan.specs.Bytes.{same, some}
+use Rattle.family.specs.Members.{those, all, SameMembers}
 use Rattle.perms.specs.Sets.{has, setOf}
 use Rattle.modes.specs.Modes.{sameMode}
 use Rattle.modes.specs.declared.Mode.{Mode}
@@ -36,11 +37,6 @@ pub record Findings : Type 0 where
 unfoldable pub applies : List Variable → Access → Rule → Bool
 applies vs q r = (not (r .owner) || q .owner) && matchesSome vs (r .pattern) (q .path)
 
--- the rules of a list of which p holds
-unfoldable pub those : (Rule → Bool) → List Rule → List Rule
-those p [] = []
-those p (r ∷ rs) = elim (p r) [ true ↦ r ∷ those p rs | false ↦ those p rs ]
-
 -- the bits carried by the rules of which p holds
 unfoldable pub bits : (Rule → Bool) → List Rule → ℕ
 bits p rs = setOf 7 (λ k. some (λ (r : Rule). p r && has (r .perms .0) k) rs)
@@ -52,8 +48,7 @@ moveBy (ByMode m) t = record { mode = m; target = t } ∷ []
 
 -- the transitions of the rules of which p holds
 unfoldable pub moves : (Rule → Bool) → List Rule → List Move
-moves p [] = []
-moves p (r ∷ rs) = elim (p r) [ true ↦ moveBy (r .transition) (r .target) ++ moves p rs | false ↦ moves p rs ]
+moves p rs = all (λ (r : Rule). moveBy (r .transition) (r .target)) (those p rs)
 
 abbrev pub allows : Rule → Bool
 allows r = not (r .deny)
@@ -102,25 +97,11 @@ join f g =
 abbrev pub sameMove : Move → Move → Bool
 sameMove a b = sameMode (a .mode) (b .mode) && same (a .target) (b .target)
 
--- the members of a set of transitions: none, one, or more
-pub data Choice : Type 0 where
-  None : Choice
-  Single : Move → Choice
-  Several : Choice
-
-unfoldable pub choice : List Move → Choice
-choice [] = None
-choice (m ∷ ms) = if every (sameMove m) ms then Single m else Several
-
--- two sets of transitions "have the same members"
-abbrev pub SameMembers : List Move → List Move → Type 0
-SameMembers ms ns = (m : Move) → some (sameMove m) ms ≡ some (sameMove m) ns
-
 -- "Findings are equal when the four bit sets are and both transition sets have the same members."
 pub record Equal (f g : Findings) : Type 0 where
   pub allowed : f .allowed ≡ g .allowed
   pub allowedAudit : f .allowedAudit ≡ g .allowedAudit
   pub denied : f .denied ≡ g .denied
   pub deniedAudit : f .deniedAudit ≡ g .deniedAudit
-  pub exact : SameMembers (f .exact) (g .exact)
-  pub others : SameMembers (f .others) (g .others)
+  pub exact : SameMembers sameMove (f .exact) (g .exact)
+  pub others : SameMembers sameMove (f .others) (g .others)

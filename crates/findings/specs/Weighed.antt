@@ -9,8 +9,9 @@ use Rattle.perms.specs.declared.Perms.{Perms}
 use Rattle.modes.specs.declared.Transition.{Transition}
 use Rattle.modes.specs.declared.Transition.the-variants.{Absent, ByMode}
 use Rattle.rule.specs.Rules.{Rule}
+use Rattle.family.specs.Members.{Choice, None, Single, Several, choice}
 use Rattle.text.specs.Places.{spanOf}
-use Rattle.findings.specs.Findings.{Move, Findings, Choice, None, Single, Several, choice, sameMove}
+use Rattle.findings.specs.Findings.{Move, Findings, sameMove}
 use Rattle.findings.specs.declared as code
 use Rattle.findings.specs.declared.Choice.the-variants as choices
 
@@ -19,8 +20,8 @@ pub record Weighed : Type 0 where
   pub allowedAudit : ℕ
   pub denied : ℕ
   pub deniedAudit : ℕ
-  pub exact : Choice
-  pub others : Choice
+  pub exact : Choice Move
+  pub others : Choice Move
 
 unfoldable pub weighed : Findings → Weighed
 weighed f =
@@ -29,8 +30,8 @@ weighed f =
       allowedAudit = f .allowedAudit;
       denied = f .denied;
       deniedAudit = f .deniedAudit;
-      exact = choice (f .exact);
-      others = choice (f .others);
+      exact = choice sameMove (f .exact);
+      others = choice sameMove (f .others);
     }
 
 -- what no rule gives
@@ -40,12 +41,12 @@ nothing = record { allowed = 0; allowedAudit = 0; denied = 0; deniedAudit = 0; e
 -- ---- one rule more
 
 -- one member more
-abbrev pub withMove : Choice → Move → Choice
+abbrev pub withMove : Choice Move → Move → Choice Move
 withMove None m = Single m
 withMove (Single k) m = if sameMove k m then Single k else Several
 withMove Several m = Several
 
-abbrev pub withTransition : Choice → Transition → (target : List ℕ) → Choice
+abbrev pub withTransition : Choice Move → Transition → (target : List ℕ) → Choice Move
 withTransition c Absent t = c
 withTransition c (ByMode m) t = withMove c (record { mode = m; target = t })
 
@@ -75,7 +76,7 @@ denying r w =
 
 -- ---- what the code's values mean over the text
 
-unfoldable pub seenChoice : List ℕ → code.Choice.Choice → Choice
+unfoldable pub seenChoice : List ℕ → code.Choice.Choice → Choice Move
 seenChoice s choices.None = None
 seenChoice s (choices.Single m t) = Single (record { mode = m; target = spanOf s t })
 seenChoice s choices.Several = Several

@@ -7,13 +7,14 @@ use Prim.Native.Char.{code}
 use lib.Dec.{eqb}
 use borrow.Author.Tests.{eq-eqb, eqb-true}
 use Rattle.scan.specs.Bytes.{every, some, if_then_else_}
+use Rattle.scan.proofs.Bools.{and-left, and-right}
 use Rattle.pattern.specs.Pieces.{Piece, Byte, One, Star, StarStar, Class}
 use Rattle.pattern.specs.Expansions.{Variable, across, listing, ofItems, ofName, expansions, isSlash, joinedAfter, isLiteral, joined}
 use Rattle.pattern.specs.Items.{items}
 use Rattle.pattern.specs.Literals.{special, ordinary}
 use Rattle.pattern.proofs.Literals.{items-ordinary}
 use Rattle.matcher.specs.Match.{matches, matchesSome, matchesExactly}
-use Rattle.matcher.proofs.Laws.{and-l, and-r, matches-nil, matches-one}
+use Rattle.matcher.proofs.Laws.{matches-nil, matches-one}
 use Rattle.front.specs.Front.{beginning, leading, plainAfter, frontAfter, front}
 
 -- ---- Bool and lists
@@ -36,12 +37,12 @@ module _ {A : Type 0} where
       every p xs ≡ true → every q (map f xs) ≡ true
   unfolding every
   every-map p q f h [] e = refl
-  every-map p q f h (x ∷ xs) e = ap₂ _&&_ (h x (and-l (p x) (every p xs) e)) (every-map p q f h xs (and-r (p x) (every p xs) e))
+  every-map p q f h (x ∷ xs) e = ap₂ _&&_ (h x (and-left (p x) (every p xs) e)) (every-map p q f h xs (and-right (p x) (every p xs) e))
 
   every-none : (p q : A → Bool) → ((x : A) → p x ≡ true → q x ≡ false) → (xs : List A) → every p xs ≡ true → some q xs ≡ false
   unfolding every some
   every-none p q h [] e = refl
-  every-none p q h (x ∷ xs) e = ap₂ _||_ (h x (and-l (p x) (every p xs) e)) (every-none p q h xs (and-r (p x) (every p xs) e))
+  every-none p q h (x ∷ xs) e = ap₂ _||_ (h x (and-left (p x) (every p xs) e)) (every-none p q h xs (and-right (p x) (every p xs) e))
 
 beginning-then : (a b c : List ℕ) → beginning a b ≡ true → beginning b c ≡ true → beginning a c ≡ true
 unfolding beginning
@@ -49,8 +50,8 @@ beginning-then [] b c p q = refl
 beginning-then (x ∷ a) [] c p q = absurd (false≢true p)
 beginning-then (x ∷ a) (y ∷ b) [] p q = absurd (false≢true q)
 beginning-then (x ∷ a) (y ∷ b) (z ∷ c) p q =
-    ap₂ _&&_ (eq-eqb x z (eqb-true x y (and-l (eqb x y) (beginning a b) p) ∙ eqb-true y z (and-l (eqb y z) (beginning b c) q)))
-    (beginning-then a b c (and-r (eqb x y) (beginning a b) p) (and-r (eqb y z) (beginning b c) q))
+    ap₂ _&&_ (eq-eqb x z (eqb-true x y (and-left (eqb x y) (beginning a b) p) ∙ eqb-true y z (and-left (eqb y z) (beginning b c) q)))
+    (beginning-then a b c (and-right (eqb x y) (beginning a b) p) (and-right (eqb y z) (beginning b c) q))
 
 -- ---- a path that is matched begins with the leading literals
 
@@ -63,7 +64,7 @@ leading-before [] s e = refl
 leading-before (Byte c ∷ ps) [] e = absurd (false≢true (sym (matches-nil (Byte c) ps) ∙ e))
 leading-before (Byte c ∷ ps) (b ∷ s) e =
     let h : (eqb b c && matches ps s) ≡ true = sym (matches-one (Byte c) ps b s refl) ∙ e in
-    ap₂ _&&_ (eqb-turn b c (and-l (eqb b c) (matches ps s) h)) (leading-before ps s (and-r (eqb b c) (matches ps s) h))
+    ap₂ _&&_ (eqb-turn b c (and-left (eqb b c) (matches ps s) h)) (leading-before ps s (and-right (eqb b c) (matches ps s) h))
 leading-before (One ∷ ps) s e = refl
 leading-before (Star ∷ ps) s e = refl
 leading-before (StarStar ∷ ps) s e = refl
@@ -97,8 +98,8 @@ front-leads vs (b ∷ s) slash = go (plainAfter slash b) refl (front-leads vs s 
         → every (λ x. beginning (if t then b ∷ frontAfter (eqb b (code "/")) s else []) (leading (joinedAfter slash x))) (expansions vs (b ∷ s)) ≡ true
     go false e h = every-all (λ x. true) (λ x. refl) (expansions vs (b ∷ s))
     go true e h =
-        let plain : special b ≡ false = not-false (special b) (and-l (ordinary b) (not (slash && eqb b (code "/"))) e) in
-        let keep : (slash && eqb b (code "/")) ≡ false = not-false (slash && eqb b (code "/")) (and-r (ordinary b) (not (slash && eqb b (code "/"))) e) in
+        let plain : special b ≡ false = not-false (special b) (and-left (ordinary b) (not (slash && eqb b (code "/"))) e) in
+        let keep : (slash && eqb b (code "/")) ≡ false = not-false (slash && eqb b (code "/")) (and-right (ordinary b) (not (slash && eqb b (code "/"))) e) in
         rw (plain-expansions vs b s plain)
         (every-map (λ x. beginning (frontAfter (eqb b (code "/")) s) (leading (joinedAfter (eqb b (code "/")) x)))
         (λ x. beginning (b ∷ frontAfter (eqb b (code "/")) s) (leading (joinedAfter slash x))) (λ x. Byte b ∷ x)

@@ -17,7 +17,7 @@ use Rattle.pattern.specs.Faults.{patternFault, tooLong, tooMany, rooted}
 use Rattle.sizes.proofs.Choices.{count-length}
 use Rattle.matcher.specs.Match.{matches, matchesSome, matchesExactly}
 use Rattle.matcher.specs.Walk.{pathFits}
-use Rattle.matcher.proofs.Laws.{and-l, and-r}
+use Rattle.scan.proofs.Bools.{and-left, and-right}
 use Rattle.front.specs.Front.{beginning, front}
 use Rattle.front.proofs.Laws.{front-none, front-none-exactly}
 use Rattle.glob.specs.declared.Matched.{Matched}
@@ -143,8 +143,8 @@ module _ (text path : List ℕ) (vs : List Variable) (s : List ℕ) where
   within-sizes : (textFits text && pathFits path) ≡ true → patternFault vs s ≡ 0 → Within text (expansions vs s) path
   within-sizes h e =
       record {
-        short = leb-true (length text) 65535 (and-l (textFits text) (pathFits path) h);
-        fits = and-r (textFits text) (pathFits path) h;
+        short = leb-true (length text) 65535 (and-left (textFits text) (pathFits path) h);
+        fits = and-right (textFits text) (pathFits path) h;
         few = sized vs s (faultless vs s e) .0;
         room = sized vs s (faultless vs s e) .1;
       }

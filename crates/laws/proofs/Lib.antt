@@ -3,7 +3,9 @@ pub mod Joining
 pub mod Fixed
 pub mod Names
 pub mod Texts
-pub mod Parts
+pub mod Whole
+pub mod Files
+pub mod Answers
 pub mod Orders
 pub mod Written
 pub mod Tokens

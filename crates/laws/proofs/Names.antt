@@ -8,7 +8,7 @@ use lib.ListN.{length}
 use lib.Dec.{ltb}
 use Rattle.scan.specs.Bytes.{same, some}
 use Rattle.scan.proofs.Laws.{same-eq, same-self}
-use Rattle.matcher.proofs.Laws.{or-r}
+use Rattle.scan.proofs.Bools.{or-right}
 use Rattle.text.specs.Reading.{Reading, Read, Refused, _>>=_, refuseIf}
 use Rattle.tokens.specs.Tokens.{Token, noStop, tokenAt}
 use Rattle.blanks.specs.Blanks.{standing}
@@ -36,7 +36,7 @@ found n (p ∷ ps) e = go (same (p .name) n) refl (found n ps) e
 pub member-named : (p : Profile) (ps : List Profile) → List·Memᴰ p ps → named (p .name) ps ≡ true
 unfolding named
 member-named p ps (List·Memᴰ·head {x = x} {xs = xs} e) = ap (λ (y : Profile). same (y .name) (p .name) || named (p .name) xs) (sym e) ∙ rw (same-self (p .name))
-member-named p ps (List·Memᴰ·tail {x = x} {xs = xs} m) = or-r (same (x .name) (p .name)) (named (p .name) xs) (member-named p xs m)
+member-named p ps (List·Memᴰ·tail {x = x} {xs = xs} m) = or-right (same (x .name) (p .name)) (named (p .name) xs) (member-named p xs m)
 
 -- ---- names that are used
 

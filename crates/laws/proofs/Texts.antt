@@ -21,7 +21,7 @@ use Rattle.answer.specs.declared.Verdict.the-variants as verdict
 use Rattle.decide.specs.Decide.{answerIn, answerBy, answerOf}
 use Rattle.laws.specs.Asked.{named, rulesOf, findingsBy, findingsOf, Given}
 use Rattle.laws.specs.Orders.{Accepted, SameButRules}
-use Rattle.matcher.proofs.Laws.{iff}
+use Rattle.scan.proofs.Bools.{iff}
 use Rattle.laws.proofs.Fixed.{answer-fixed}
 use Rattle.laws.proofs.Names.{found, member-named, only-one}
 

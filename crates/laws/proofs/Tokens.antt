@@ -18,8 +18,9 @@ use Rattle.heads.specs.Heads.{Head, nameAt, openAt, headAt}
 use Rattle.profile.specs.Profiles.{Profile, File, ends, profilesAt, fileOf}
 use Rattle.findings.specs.Findings.{allows, denies}
 use Rattle.decide.specs.Decide.{answerOf}
-use Rattle.laws.specs.Orders.{Accepted, SameRules, Added, SameButRules, NoMore, NoLess}
-use Rattle.laws.specs.Orders as orders
+use Rattle.laws.specs.Orders.{Accepted, SameButRules, NoMore, NoLess}
+use Rattle.family.specs.Families.{SameRules, Added}
+use Rattle.family.specs.Families as families
 use Rattle.laws.specs.Written as written
 use Rattle.laws.specs.Written.{Written, writtenAt, SameTokens, meaning, WrittenRules, rulesWritten, WrittenProfile, profilesWritten, WrittenFile, writtenOf, AcceptedAs, SameWritten, AddedWritten, SameButWritten, profileBy, fileBy}
 use Rattle.laws.proofs.Steps.{never, inner, step, unless}
@@ -191,10 +192,10 @@ same-by vs ws h = (
 
 module _ (deny : Bool) (p : Rule → Bool) (by : (w : Written) → some (same (bytes "deny")) (w .qualifiers) ≡ deny → p (meaning w) ≡ true) where
   added-by : (vs ws : List Written) → AddedWritten deny vs ws → Added p (map meaning vs) (map meaning ws)
-  added-by vs ws written.none = orders.none
+  added-by vs ws written.none = families.none
   added-by vs ws (written.kept {vs = xs} {ws = ys} v w h a) =
-      subst (λ (r : Rule). Added p (meaning v ∷ map meaning xs) (r ∷ map meaning ys)) (same-meaning v w h) (orders.kept (meaning v) (added-by xs ys a))
-  added-by vs ws (written.added {vs = xs} {ws = ys} w e a) = orders.added (meaning w) (by w e) (added-by xs ys a)
+      subst (λ (r : Rule). Added p (meaning v ∷ map meaning xs) (r ∷ map meaning ys)) (same-meaning v w h) (families.kept (meaning v) (added-by xs ys a))
+  added-by vs ws (written.added {vs = xs} {ws = ys} w e a) = families.added (meaning w) (by w e) (added-by xs ys a)
 
 files-by : (R : List Written → List Written → Type 0) (S : List Rule → List Rule → Type 0) → ((vs ws : List Written) → R vs ws → S (map meaning vs) (map meaning ws))
     → (v w : WrittenFile) → SameButWritten R v w → SameButRules S (fileBy v) (fileBy w)

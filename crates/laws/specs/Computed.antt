@@ -6,7 +6,8 @@ use Rattle.class.specs.Class.{ranges, goodClass, listed, inClass}
 use Rattle.answer.specs.Answers.{moveOf, executeOf, grants, records, answerFrom}
 use Rattle.request.specs.Requests.{doubled, badPath}
 use Rattle.decide.specs.Decide.{answerIn, answerOf}
-use Rattle.findings.specs.Findings.{applies, those, bits, moves, findings, choice}
+use Rattle.family.specs.Members.{those, all, choice}
+use Rattle.findings.specs.Findings.{applies, bits, moves, findings}
 use Rattle.matcher.specs.Match.{matches, matchesSome, matchesExactly}
 use Rattle.pattern.specs.Expansions.{isSet, ofParts, oneOf, ofName, ofItems, across, expansions, count, longest, joinedAfter}
 use Rattle.pattern.specs.Faults.{tooMany, rooted, valueFault, patternFault}
@@ -30,5 +31,5 @@ use Rattle.keywords.specs.Keywords.{notTaken}
 use Rattle.answer.specs.declared.Answer.{Answer}
 
 unfoldable pub computed : (text name path : List ℕ) (asked : ℕ) (owner : Bool) → Answer
-unfolding bytes every some same run has modeIn letters carried withMode wordOf feeds lineOf includes skip tokenFrom tokenAt notTaken ranges goodClass listed inClass upTo extra part parts before afterComma item reach items valueForm patternForm valueNames patternNames isSet ofParts oneOf ofName ofItems across expansions count longest joinedAfter tooMany rooted valueFault patternFault matches matchesSome matchesExactly nameForm variableForm valuesOf setBefore extended assigned finalSets valuesAt named operatorFrom assignmentFrom preambleAt optional qualifiersAt patternAt permsAt targetAt commaAt ruleFrom rulesAt nameAt openAt headAt profilesAt fileOf applies those bits moves findings choice moveOf executeOf grants records answerFrom doubled badPath answerIn answerOf sameMode
+unfolding bytes every some same run has modeIn letters carried withMode wordOf feeds lineOf includes skip tokenFrom tokenAt notTaken ranges goodClass listed inClass upTo extra part parts before afterComma item reach items valueForm patternForm valueNames patternNames isSet ofParts oneOf ofName ofItems across expansions count longest joinedAfter tooMany rooted valueFault patternFault matches matchesSome matchesExactly nameForm variableForm valuesOf setBefore extended assigned finalSets valuesAt named operatorFrom assignmentFrom preambleAt optional qualifiersAt patternAt permsAt targetAt commaAt ruleFrom rulesAt nameAt openAt headAt profilesAt fileOf applies those all bits moves findings choice moveOf executeOf grants records answerFrom doubled badPath answerIn answerOf sameMode
 computed = answerOf

@@ -10,6 +10,7 @@ use native.Mathlib.Omega.{arith}
 use lib.Dec.{eqb}
 use Rattle.scan.specs.Bytes.{bytes}
 use Rattle.perms.specs.Sets.{perms}
+use Rattle.family.specs.Families.{SameRules, Added, none, kept, added}
 use Rattle.modes.specs.declared.Kind.the-variants as kind
 use Rattle.modes.specs.declared.Fallback.the-variants as fallback
 use Rattle.modes.specs.declared.Mode.{Mode}
@@ -25,7 +26,7 @@ use Rattle.decide.specs.Decide.{answerOf}
 use Rattle.laws.specs.Computed.{computed}
 use Rattle.laws.specs.Written.{Written, wordsBy, qualifierWords, targetsAt, writtenAt, SameTokens}
 use Rattle.laws.specs.Asked.{named, rulesOf, findingsOf, Given}
-use Rattle.laws.specs.Orders.{Accepted, SameRules, Added, none, kept, added, SameButRules}
+use Rattle.laws.specs.Orders.{Accepted, SameButRules}
 
 -- a rule without audit, owner and target
 abbrev rule : (deny : Bool) → String → ℕ → Transition → Rule

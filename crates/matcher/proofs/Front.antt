@@ -9,10 +9,11 @@ use lib.Dec.{eqb, ltb}
 use borrow.Author.Tests.{ltb-true, ltb-false, eq-eqb, ne-eqb}
 use native.Mathlib.Omega.{arith}
 use Rattle.scan.specs.Bytes.{isEmpty}
+use Rattle.scan.proofs.Bools.{and-left, and-right}
 use Rattle.pattern.specs.Pieces.{Piece}
 use Rattle.matcher.specs.Match.{matches}
 use Rattle.matcher.specs.Walk.{repeatsOf, takesAt, takesOf}
-use Rattle.matcher.proofs.Laws.{and-l, and-r, matches-nil, matches-one}
+use Rattle.matcher.proofs.Laws.{matches-nil, matches-one}
 
 ends : (s : List ℕ) (k : ℕ) → k ≤ length s → isEmpty (drop k s) ≡ eqb k (length s)
 ends s k h = go (drop k s) (length-drop k s)
@@ -37,11 +38,11 @@ module _ (d : ℕ → Piece) (codes path : List ℕ) (k : ℕ) where
     -- and its byte is there, or not
     pub front-more : takesAt (d (getD codes k 0)) path k ≡ true → ahead d codes path k ≡ ahead d codes path (k + 1)
     front-more t =
-        let l : k < length path = ltb-true k (length path) (and-l (ltb k (length path)) (takesOf (d (getD codes k 0)) (getD path k 0)) t) in
-        one l ∙ rw (and-r (ltb k (length path)) (takesOf (d (getD codes k 0)) (getD path k 0)) t)
+        let l : k < length path = ltb-true k (length path) (and-left (ltb k (length path)) (takesOf (d (getD codes k 0)) (getD path k 0)) t) in
+        one l ∙ rw (and-right (ltb k (length path)) (takesOf (d (getD codes k 0)) (getD path k 0)) t)
 
     pub front-inside : takesAt (d (getD codes k 0)) path k ≡ true → k < length path
-    front-inside t = ltb-true k (length path) (and-l (ltb k (length path)) (takesOf (d (getD codes k 0)) (getD path k 0)) t)
+    front-inside t = ltb-true k (length path) (and-left (ltb k (length path)) (takesOf (d (getD codes k 0)) (getD path k 0)) t)
 
     pub front-dead : takesAt (d (getD codes k 0)) path k ≡ false → ahead d codes path k ≡ false
     front-dead t = go (ltb k (length path)) refl

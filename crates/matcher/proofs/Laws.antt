@@ -1,6 +1,6 @@
 -- The laws of `matches`: what one piece in front does, one piece more at the end, and what one step of the walk does.
 use mathlib.Core.Path.{_≡_, refl, sym, ap, ap₂, _∙_, subst}
-use mathlib.Core.Logic.{⊎-elim, _⊎_, inl, inr}
+use mathlib.Core.Logic.{⊎-elim}
 use mathlib.Core.Bool.{Bool, true, false, _&&_, _||_, false≢true, and-true, and-false, or-false, and-assoc, or-assoc, and-or-distrib-left, and-or-distrib-right}
 use mathlib.Core.List.{List, [], _∷_, _++_, append-assoc, map, map-append}
 use Prim.Native.Nat.{ℕ, zero, suc, _+_, _≤_, _<_}
@@ -10,39 +10,17 @@ use native.Mathlib.Numerals.{add-one}
 use lib.ListN.{set, replicate, getD-replicate, length, take, drop, getD, length-append, length-take, length-drop, take-append-drop}
 use lib.Seq.{take-append-seam, drop-append-seam, take-suc, drop-append-le, take-take, length-take-le, take-length, drop-length, slice-empty, getD-set-same, getD-set-other}
 use Rattle.scan.specs.Bytes.{every, isEmpty}
+use Rattle.scan.proofs.Bools.{iff, and-left, and-right, or-cases, or-right}
 use Rattle.pattern.specs.Pieces.{Piece, Byte, One, Star, StarStar, Class}
 use Rattle.matcher.specs.Match.{single, accepts, someUpTo, matches}
 use Rattle.matcher.specs.Walk.{repeatsOf, takesOf, markOf, after}
-
--- ---- Bool
-
-pub iff : (a b : Bool) → (a ≡ true → b ≡ true) → (b ≡ true → a ≡ true) → a ≡ b
-iff true b f g = sym (f refl)
-iff false true f g = g refl
-iff false false f g = refl
-
-pub and-l : (a b : Bool) → (a && b) ≡ true → a ≡ true
-and-l true b e = refl
-and-l false b e = e
-
-pub and-r : (a b : Bool) → (a && b) ≡ true → b ≡ true
-and-r true b e = e
-and-r false b e = absurd (false≢true e)
-
-pub or-cases : (a b : Bool) → (a || b) ≡ true → (a ≡ true) ⊎ (b ≡ true)
-or-cases true b e = inl refl
-or-cases false b e = inr e
-
-pub or-r : (a b : Bool) → b ≡ true → (a || b) ≡ true
-or-r true b e = refl
-or-r false b e = e
 
 -- ---- some number up to n
 
 pub some-intro : (f : ℕ → Bool) (n k : ℕ) → k ≤ n → f k ≡ true → someUpTo f n ≡ true
 some-intro f zero k h e = subst (λ (j : ℕ). f j ≡ true) (omega arith) e
 some-intro f (suc n) k h e =
-    ⊎-elim (λ q. or-r (someUpTo f n) (f (suc n)) (subst (λ (j : ℕ). f j ≡ true) q e))
+    ⊎-elim (λ q. or-right (someUpTo f n) (f (suc n)) (subst (λ (j : ℕ). f j ≡ true) q e))
     (λ l. rw (some-intro f n k (le-of-suc-le-suc l) e))
     (eq-or-lt-of-le h)
 
@@ -179,8 +157,8 @@ module _ (P Q : List ℕ → Bool) where
         left = take (r .0) s;
         right = drop (r .0) s;
         whole = sym (take-append-drop (r .0) s);
-        first = and-l (P (take (r .0) s)) (Q (drop (r .0) s)) (r .2);
-        second = and-r (P (take (r .0) s)) (Q (drop (r .0) s)) (r .2);
+        first = and-left (P (take (r .0) s)) (Q (drop (r .0) s)) (r .2);
+        second = and-right (P (take (r .0) s)) (Q (drop (r .0) s)) (r .2);
       }
 
 -- ---- pieces put end to end: the path is cut between them

@@ -10,18 +10,11 @@ use lib.Arith.{lt-one}
 use lib.Pow.{pow-mono}
 use lib.Bits.{bitAnd, bitOr, or-shr, or-mod, and-shr, and-mod, or-lt, and-lt, or-comm, or-self}
 use borrow.Author.Tests.{eqb-true, eq-eqb}
+use Rattle.scan.proofs.Bools.{and-left, and-right}
 use Rattle.perms.specs.Sets.{has, digit, setOf, perms, unite, without, within}
 use Rattle.perms.specs.declared.Perms.{Perms}
 
 -- Bools
-
-pub and-left : (a b : Bool) → (a && b) ≡ true → a ≡ true
-and-left true b e = refl
-and-left false b e = e
-
-pub and-right : (a b : Bool) → (a && b) ≡ true → b ≡ true
-and-right true b e = e
-and-right false b e = absurd (false≢true e)
 
 pub beq-eq : (a b : Bool) → Bool·beq a b ≡ true → a ≡ b
 beq-eq true true e = refl

@@ -29,7 +29,8 @@ use Rattle.statement.specs.Steps.{Step, ruleAt, ruleThen, rulesFrom}
 use Rattle.statement.specs.Places.{seenStep}
 use Rattle.statement.specs.declared as code
 use Rattle.statement.specs.declared.Step.the-variants as step
-use Rattle.findings.specs.Findings.{Access, Move, Findings, Choice, allows, applies, audited, bits, choice, denies, exactly, findings, join, moveBy, moves, otherwise, those}
+use Rattle.family.specs.Members.{those, all, Choice, choice}
+use Rattle.findings.specs.Findings.{Access, Move, Findings, allows, applies, audited, bits, denies, exactly, findings, join, moveBy, moves, otherwise, sameMove}
 use Rattle.findings.specs.Weighed.{Weighed, allowing, denying, nothing, weighed, withTransition}
 use Rattle.findings.proofs.Joining.{findings-append}
 use Rattle.findings.proofs.Laws.{choice-by}
@@ -49,7 +50,7 @@ module _ (vs : List Variable) (r : Rule) (h : Sound vs r) where
   abbrev carrying : Bool → ℕ → ℕ
   carrying b n = if b then bitOr n (r .perms .0) else n
 
-  abbrev moving : Bool → Choice → Choice
+  abbrev moving : Bool → Choice Move → Choice Move
   moving b c = if b then withTransition c (r .transition) (r .target) else c
 
   -- the bits of the rule alone
@@ -66,14 +67,14 @@ module _ (vs : List Variable) (r : Rule) (h : Sound vs r) where
       go false = or-zero-r n
   bits-more p false n = or-zero-r n
 
-  moves-more : (p : Rule → Bool) (b : Bool) (ms : List Move) → choice (ms ++ moves p (only b)) ≡ moving (b && p r) (choice ms)
-  unfolding moves
+  moves-more : (p : Rule → Bool) (b : Bool) (ms : List Move) → choice sameMove (ms ++ moves p (only b)) ≡ moving (b && p r) (choice sameMove ms)
+  unfolding moves those all
   moves-more p true ms = go (p r)
     where
-      go : (b : Bool) → choice (ms ++ (elim b as (λ _. List Move) [ true ↦ moveBy (r .transition) (r .target) ++ [] | false ↦ [] ])) ≡ moving b (choice ms)
-      go true = ap (λ (l : List Move). choice (ms ++ l)) (append-nil (moveBy (r .transition) (r .target))) ∙ choice-by ms (r .transition) (r .target)
-      go false = ap choice (append-nil ms)
-  moves-more p false ms = ap choice (append-nil ms)
+      go : (b : Bool) → choice sameMove (ms ++ all (λ (r : Rule). moveBy (r .transition) (r .target)) (only b)) ≡ moving b (choice sameMove ms)
+      go true = ap (λ (l : List Move). choice sameMove (ms ++ l)) (append-nil (moveBy (r .transition) (r .target))) ∙ choice-by ms (r .transition) (r .target)
+      go false = ap (choice sameMove) (append-nil ms)
+  moves-more p false ms = ap (choice sameMove) (append-nil ms)
 
   module _ (q : Access) (f : Findings) where
     -- by whether the rule matches, denies, matches exactly
@@ -83,8 +84,8 @@ module _ (vs : List Variable) (r : Rule) (h : Sound vs r) where
           allowedAudit = carrying (b && (not deny && r .audit)) (f .allowedAudit);
           denied = carrying (b && deny) (f .denied);
           deniedAudit = carrying (b && (deny && r .audit)) (f .deniedAudit);
-          exact = moving (b && (not deny && exact)) (choice (f .exact));
-          others = moving (b && (not deny && not exact)) (choice (f .others));
+          exact = moving (b && (not deny && exact)) (choice sameMove (f .exact));
+          others = moving (b && (not deny && not exact)) (choice sameMove (f .others));
         })
         (if b then (if deny then denying r (weighed f) else allowing exact r (weighed f)) else weighed f)
     unfolding denying allowing weighed
@@ -157,7 +158,7 @@ module _ (text : List ℕ) (vs : List Variable) (q : Access) (fits : Fits text (
       ∙ ap (λ (l : List Rule). weighed (findings vs q l)) (append-assoc done (r ∷ []) rs)
 
   none-found : nothing ≡ weighed (findings vs q [])
-  unfolding weighed findings those bits some moves choice
+  unfolding weighed findings those all bits some moves choice
   none-found = refl
 
   pub gathered-findings : (rs : List Rule) → All (Sound vs) rs → gathered text vs (q .path) (q .owner) rs nothing ≡ weighed (findings vs q rs)

@@ -27,7 +27,8 @@ use Rattle.names.specs.Names.{nameForm}
 use Rattle.rule.specs.Rules.{Rule, RuleRead, Qualifiers, patternAt, qualifiersAt, ruleFrom}
 use Rattle.rule_tail.specs.Tails.{Permissions, Target, carriedBy, commaAt, permsAt, takesTarget, targetAt}
 use Rattle.statement.specs.Steps.{Step, More, Close, ruleAt, ruleThen, rulesFrom}
-use Rattle.findings.specs.Findings.{Access, Move, Choice, Single, Several, applies, choice, exactly, findings, moveBy, moves, otherwise, sameMove, those}
+use Rattle.family.specs.Members.{those, all, Choice, Single, Several, choice}
+use Rattle.findings.specs.Findings.{Access, Move, applies, exactly, findings, moveBy, moves, otherwise, sameMove}
 
 -- the pattern has no fault, the permissions are some of the seven, the target fits an answer
 pub record Sound (vs : List Variable) (r : Rule) : Type 0 where
@@ -216,19 +217,16 @@ move-short : (t : Transition) (target : List ℕ) (ms : List Move) → length ta
 move-short Absent target ms h k = k
 move-short (ByMode m) target ms h k = (h, k)
 
-moves-short : (vs : List Variable) (p : Rule → Bool) (rs : List Rule) → All (Sound vs) rs → All ShortMove (moves p rs)
-unfolding moves
-moves-short vs p [] h = tt
-moves-short vs p (r ∷ rs) h = go (p r) (moves-short vs p rs (h .1))
-  where
-    go : (b : Bool) → All ShortMove (moves p rs) → All ShortMove (elim b as (λ _. List Move) [ true ↦ moveBy (r .transition) (r .target) ++ moves p rs | false ↦ moves p rs ])
-    go true k = move-short (r .transition) (r .target) (moves p rs) (h .0 .short) k
-    go false k = k
+all-short : (vs : List Variable) (rs : List Rule) → All (Sound vs) rs → All ShortMove (all (λ (r : Rule). moveBy (r .transition) (r .target)) rs)
+unfolding all
+all-short vs [] h = tt
+all-short vs (r ∷ rs) h = move-short (r .transition) (r .target) (all (λ (r : Rule). moveBy (r .transition) (r .target)) rs) (h .0 .short) (all-short vs rs (h .1))
 
 module _ (vs : List Variable) (q : Access) (rs : List Rule) (h : All (Sound vs) rs) where
   -- the transitions of the matching rules of which p holds
   pub matching-short : (p : Rule → Bool) → All ShortMove (moves p (those (applies vs q) rs))
-  matching-short p = moves-short vs p (those (applies vs q) rs) (those-all (Sound vs) (applies vs q) rs h)
+  unfolding moves
+  matching-short p = all-short vs (those p (those (applies vs q) rs)) (those-all (Sound vs) p (those (applies vs q) rs) (those-all (Sound vs) (applies vs q) rs h))
 
   pub findings-short : All ShortMove (findings vs q rs .exact) × All ShortMove (findings vs q rs .others)
   unfolding findings
@@ -240,11 +238,11 @@ pub rules-short : (vs : List Variable) (q : Access) (s : List ℕ) (k at : ℕ) 
 rules-short vs q s k at = findings-short vs q (rulesFrom k vs s at) (rules-sound vs s k at)
 
 -- the only member of a set of transitions is its first
-pub choice-short : (ms : List Move) → All ShortMove ms → (m : Move) → choice ms ≡ Single m → length (m .target) ≤ 255
+pub choice-short : (ms : List Move) → All ShortMove ms → (m : Move) → choice sameMove ms ≡ Single m → length (m .target) ≤ 255
 unfolding choice
 choice-short [] h m e = let z : _≡_ {A = ℕ} 0 1 = cc in absurd (omega arith)
 choice-short (k ∷ ms) h m e = go (every (sameMove k) ms) e
   where
-    go : (b : Bool) → _≡_ {A = Choice} (if b then Single k else Several) (Single m) → length (m .target) ≤ 255
+    go : (b : Bool) → _≡_ {A = Choice Move} (if b then Single k else Several) (Single m) → length (m .target) ≤ 255
     go true e = let z : k ≡ m = cc in subst ShortMove z (h .0)
     go false e = let z : _≡_ {A = ℕ} 0 1 = cc in absurd (omega arith)

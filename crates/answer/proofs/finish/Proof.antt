@@ -4,7 +4,8 @@ use mathlib.Core.Path.{_≡_, sym, ap, ap₂, _∙_, subst}
 use mathlib.Core.Bool.{Bool}
 use Rattle.perms.specs.Sets.{perms, setOf}
 use Rattle.perms.specs.declared.Perms.{Perms}
-use Rattle.findings.specs.Findings.{Choice}
+use Rattle.family.specs.Members.{Choice}
+use Rattle.findings.specs.Findings.{Move}
 use Rattle.findings.specs.Weighed.{Weighed, seenChoice, seenFindings, weighed}
 use Rattle.answer.specs.Answers.{answerFrom, executeOf, grants, isMode, moveOf, namedBy, records, targetOf}
 use Rattle.answer.specs.Parts.{targetBy}
@@ -51,7 +52,7 @@ returns c = λ f e short.
     let granted : c .before .before .granted-of .result .0 ≡ setOf 7 (grants f asked) = granted-is f asked wanted masks _ _ _ _ allowed denied mode (c .before .before .granted-of .ensures) in
     let recorded : c .before .recorded-of .result .0 ≡ setOf 7 (records f asked) = recorded-is f asked wanted masks _ _ _ _ _ granted (ap (λ (w : Weighed). w .allowedAudit) e) denied (ap (λ (w : Weighed). w .deniedAudit) e) (c .before .recorded-of .ensures) in
     let target : c .target-of .result ≡ targetOf (namedBy (executeOf f asked) (moveOf f)) =
-    c .target-of .ensures (subst Short (sym move) short) ∙ ap₂ (λ (b : Bool) (c : Choice). targetOf (targetBy b c)) mode move ∙ ap targetOf (named-target (executeOf f asked) (moveOf f)) in
+    c .target-of .ensures (subst Short (sym move) short) ∙ ap₂ (λ (b : Bool) (c : Choice Move). targetOf (targetBy b c)) mode move ∙ ap targetOf (named-target (executeOf f asked) (moveOf f)) in
     λ i. record { verdict = Answered; granted = perms (granted i); recorded = perms (recorded i); execute = execute i; target = target i }
 
 pub finish-spec : {M : Type 1} → statement M

@@ -1,0 +1,5 @@
+pub mod Lists
+pub mod Joining
+pub mod Fixed
+pub mod Orders
+pub mod Meaning

@@ -1,0 +1,221 @@
+-- Every rule of an accepted text is whole.
+use Prim.Native.Nat.{ℕ, zero, suc, _+_, _-_}
+use Prim.Native.Char.{code}
+use native.Mathlib.Omega.{arith}
+use mathlib.Core.Path.{_≡_, refl, sym, ap, ap₂, _∙_, subst}
+use mathlib.Core.List.{List, [], _∷_}
+use mathlib.Core.Bool.{Bool, true, false, not, _||_, _&&_, false≢true, or-false, or-true}
+use lib.ListN.{length, getD, take, drop, take-append-drop}
+use lib.Seq.{drop-drop}
+use lib.Dec.{eqb}
+use borrow.Author.Tests.{eqb-true}
+use Rattle.scan.specs.Bytes.{bytes, same, holds, every, some, run}
+use Rattle.scan.proofs.Bools.{and-left, and-right}
+use Rattle.scan.proofs.Laws.{part, same-eq, some-append}
+use Rattle.perms.specs.Sets.{has, perms}
+use Rattle.perms.proofs.Laws.{has-set}
+use Rattle.perms.specs.declared.Perms.{Perms}
+use Rattle.modes.specs.Modes.{Row, modes, modeIn}
+use Rattle.modes.specs.declared.Transition.{Transition}
+use Rattle.modes.specs.declared.Transition.the-variants.{Absent, ByMode}
+use Rattle.perms_word.specs.Words.{letters, permLetter, other, modeStart, modeEnd, modePart, carried, named, withMode, wordOf}
+use Rattle.perms_word.specs.declared.Word.{Word}
+use Rattle.perms_word.specs.declared.Word.the-variants.{Carries, Bad}
+use Rattle.text.specs.Reading.{Reading, Read, Refused, _>>=_, refuseIf, judged}
+use Rattle.blanks.specs.Blanks.{standing, standsAt}
+use Rattle.tokens.specs.Tokens.{Token, comma, noStop, isWord, tokenAt, wanted}
+use Rattle.pattern.specs.Expansions.{Variable}
+use Rattle.pattern.specs.Faults.{patternFault}
+use Rattle.rule_tail.specs.Tails.{Permissions, carriedBy, permsAt, targetAt, commaAt}
+use Rattle.rule.specs.Rules.{Qualifiers, qualifiersAt, patternAt, RuleRead, ruleFrom, RulesRead, rulesAt}
+use Rattle.preamble.specs.Preamble.{preambleAt}
+use Rattle.heads.specs.Heads.{headAt}
+use Rattle.profile.specs.Profiles.{Profile, File, ends, profilesAt, fileOf}
+use Rattle.answer.specs.Answers.{x}
+use Rattle.laws.specs.Orders.{Accepted}
+use Rattle.laws.specs.Whole.{fits, whole, wholeFile}
+use Rattle.laws.proofs.Steps.{never, inner}
+
+-- ---- the letter x
+
+-- no letter is an x
+no-x : (s : List ℕ) → every permLetter s ≡ true → holds (code "x") s ≡ false
+unfolding every some letters bytes
+no-x [] e = refl
+no-x (b ∷ s) e = go (eqb (code "x") b) refl (no-x s (and-right (permLetter b) (every permLetter s) e))
+  where
+    go : (c : Bool) → eqb (code "x") b ≡ c → holds (code "x") s ≡ false → (c || holds (code "x") s) ≡ false
+    go true h k =
+        absurd (false≢true (subst (λ (d : ℕ). permLetter d ≡ true) (sym (eqb-true (code "x") b h)) (and-left (permLetter b) (every permLetter s) e)))
+    go false h k = k
+
+run-every : (p : ℕ → Bool) (s : List ℕ) → every p (take (run p s) s) ≡ true
+unfolding every run
+run-every p [] = refl
+run-every p (b ∷ s) = go (p b) refl (run-every p s)
+  where
+    go : (c : Bool) → p b ≡ c → every p (take (run p s) s) ≡ true → every p (take (elim c as (λ _. ℕ) [ true ↦ suc (run p s) | false ↦ 0 ]) (b ∷ s)) ≡ true
+    go true e h = rw e h
+    go false e h = refl
+
+-- an x of a word stands in its mode part
+mode-x : (w : List ℕ) → every permLetter (drop (modeEnd w) w) ≡ true → holds (code "x") w ≡ holds (code "x") (modePart w)
+mode-x w e =
+    split (modeStart w) w
+    ∙ ap₂ _||_ (no-x (take (modeStart w) w) (run-every permLetter w)) (split n (drop (modeStart w) w))
+    ∙ ap₂ _||_ (ap (holds (code "x")) (sym (part (modeStart w) n w)))
+    (ap (holds (code "x")) (drop-drop n (modeStart w) w) ∙ no-x (drop (modeEnd w) w) e)
+    ∙ or-false (holds (code "x") (modePart w))
+  where
+    n : ℕ
+    n = run other (drop (modeStart w) w)
+
+    split : (k : ℕ) (s : List ℕ) → holds (code "x") s ≡ (holds (code "x") (take k s) || holds (code "x") (drop k s))
+    split k s = ap (holds (code "x")) (sym (take-append-drop k s)) ∙ some-append (eqb (code "x")) (take k s) (drop k s)
+
+-- every mode has an x
+table-x : every (λ (r : Row). holds (code "x") (bytes (r .word))) modes ≡ true
+unfolding every some bytes
+table-x = refl
+
+abbrev Named : List ℕ → Transition → Type 0
+Named w Absent = Unit {0}
+Named w (ByMode m) = holds (code "x") w ≡ true
+
+in-table : (rs : List Row) → every (λ (r : Row). holds (code "x") (bytes (r .word))) rs ≡ true → (w : List ℕ) → Named w (modeIn rs w)
+unfolding every modeIn
+in-table [] e w = tt
+in-table (r ∷ rs) e w = go (same w (bytes (r .word))) refl (in-table rs (and-right (holds (code "x") (bytes (r .word))) (every (λ (r : Row). holds (code "x") (bytes (r .word))) rs) e) w)
+  where
+    go : (b : Bool) → same w (bytes (r .word)) ≡ b → Named w (modeIn rs w) → Named w (elim b as (λ _. Transition) [ true ↦ ByMode (r .mode) | false ↦ modeIn rs w ])
+    go true h k =
+        ap (holds (code "x")) (same-eq w (bytes (r .word)) h) ∙ and-left (holds (code "x") (bytes (r .word))) (every (λ (r : Row). holds (code "x") (bytes (r .word))) rs) e
+    go false h k = k
+
+-- ---- a word of permissions
+
+abbrev Fits : Bool → Word → Type 0
+Fits deny (Carries p tr) = fits deny p tr ≡ true
+Fits deny Bad = Unit {0}
+
+mode-fits : (deny : Bool) (p : Perms) (m : List ℕ) → has (p .0) x ≡ holds (code "x") m → Fits deny (withMode deny p m)
+unfolding withMode some
+mode-fits deny p [] e = rw e (or-true deny)
+mode-fits true p (b ∷ m) e = go (same (b ∷ m) (bytes "x"))
+  where
+    go : (c : Bool) → Fits true (elim c as (λ _. Word) [ true ↦ Carries p Absent | false ↦ Bad ])
+    go true = refl
+    go false = tt
+mode-fits false p (b ∷ m) e = go (modeIn modes (b ∷ m)) (in-table modes table-x (b ∷ m))
+  where
+    go : (t : Transition) → Named (b ∷ m) t → Fits false (named p t)
+    go Absent h = tt
+    go (ByMode k) h = e ∙ h
+
+carries-x : (w : List ℕ) → has (carried w) x ≡ holds (code "x") w
+unfolding carried letters bytes
+carries-x w = has-set 7 (λ k. holds (getD letters k 0) w || (eqb k 2 && holds (code "w") w)) x (omega arith) ∙ or-false (holds (code "x") w)
+
+word-fits : (deny : Bool) (w : List ℕ) → Fits deny (wordOf deny w)
+unfolding wordOf
+word-fits deny [] = tt
+word-fits deny (b ∷ w) = go (every permLetter (drop (modeEnd (b ∷ w)) (b ∷ w))) refl (not (holds (code "w") (b ∷ w) && holds (code "a") (b ∷ w)))
+  where
+    go : (c : Bool) → every permLetter (drop (modeEnd (b ∷ w)) (b ∷ w)) ≡ c → (d : Bool)
+        → Fits deny (elim (c && d) as (λ _. Word) [ true ↦ withMode deny (perms (carried (b ∷ w))) (modePart (b ∷ w)) | false ↦ Bad ])
+    go true e true = mode-fits deny (perms (carried (b ∷ w))) (modePart (b ∷ w)) (carries-x (b ∷ w) ∙ mode-x (b ∷ w) e)
+    go true e false = tt
+    go false e d = tt
+
+-- ---- what is read, if it is, keeps a law
+
+data Keeps {A : Type 0} (P : A → Type 0) : Reading A → Type 0 where
+  good : {a : A} → P a → Keeps P (Read a)
+  refused : {n p : ℕ} → Keeps P (Refused n p)
+
+then : {A B : Type 0} {P : A → Type 0} {Q : B → Type 0} (f : A → Reading B) {r : Reading A} → Keeps P r → ((a : A) → P a → Keeps Q (f a)) → Keeps Q (r >>= f)
+then f (good {a = a} k) h = h a k
+then f refused h = refused
+
+next : {A B : Type 0} {Q : B → Type 0} (f : A → Reading B) (r : Reading A) → ((a : A) → Keeps Q (f a)) → Keeps Q (r >>= f)
+next f (Read a) h = h a
+next f (Refused n p) h = refused
+
+perms-fit : (deny : Bool) (s : List ℕ) (at : ℕ) → Keeps (λ (p : Permissions). fits deny (p .perms) (p .transition) ≡ true) (permsAt deny s at)
+unfolding permsAt
+perms-fit deny s at =
+    next _ (wanted s (tokenAt comma s at)) λ t.
+    next _ (refuseIf (t .quoted || isWord t (bytes ",")) 4 (t .start)) λ u. go t (wordOf deny (t .content)) (word-fits deny (t .content))
+  where
+    go : (t : Token) (w : Word) → Fits deny w → Keeps (λ (p : Permissions). fits deny (p .perms) (p .transition) ≡ true) (carriedBy t w)
+    go t (Carries p tr) h = good h
+    go t Bad h = refused
+
+rule-whole : (vs : List Variable) (s : List ℕ) (q : Qualifiers) (t : Token) → Keeps (λ (r : RuleRead). whole (r .rule) ≡ true) (ruleFrom vs s q t)
+unfolding ruleFrom
+rule-whole vs s q t =
+    next _ (judged (patternFault vs (t .content)) (t .start)) λ u.
+    then _ (perms-fit (q .deny) s (t .next)) λ p h.
+    next _ (targetAt (p .transition) s (p .next)) λ to.
+    next _ (commaAt s (to .next)) λ n. good h
+
+rules-whole : (left : ℕ) (vs : List Variable) (s : List ℕ) (at : ℕ) → Keeps (λ (r : RulesRead). every whole (r .rules) ≡ true) (rulesAt left vs s at)
+unfolding rulesAt every
+rules-whole zero vs s at = go (standsAt (bytes "}") s at)
+  where
+    go : (b : Bool) → Keeps (λ (r : RulesRead). every whole (r .rules) ≡ true)
+        (elim b as (λ _. Reading RulesRead) [ true ↦ Read (record { rules = []; next = standing s at + 1 }) | false ↦ patternAt s (qualifiersAt s at) >>= λ t. Refused 9 (t .start) ])
+    go true = good refl
+    go false = next _ (patternAt s (qualifiersAt s at)) λ t. refused
+rules-whole (suc left) vs s at = go (standsAt (bytes "}") s at) (rules-whole left vs s)
+  where
+    go : (b : Bool) → ((next : ℕ) → Keeps (λ (r : RulesRead). every whole (r .rules) ≡ true) (rulesAt left vs s next))
+        → Keeps (λ (r : RulesRead). every whole (r .rules) ≡ true)
+        (elim b as (λ _. Reading RulesRead) [
+          | true ↦ Read (record { rules = []; next = standing s at + 1 })
+          | false ↦ patternAt s (qualifiersAt s at) >>= λ t. ruleFrom vs s (qualifiersAt s at) t >>= λ r. rulesAt left vs s (r .next) >>= λ more. Read (record { rules = r .rule ∷ more .rules; next = more .next })
+        ])
+    go true k = good refl
+    go false k =
+        next _ (patternAt s (qualifiersAt s at)) λ t.
+        then _ (rule-whole vs s (qualifiersAt s at) t) λ r h.
+        then _ (k (r .next)) λ more g. good (ap₂ _&&_ h g)
+
+-- ---- profiles and files
+
+abbrev wholeProfiles : List Profile → Type 0
+wholeProfiles ps = every (λ (p : Profile). every whole (p .rules)) ps ≡ true
+
+profiles-whole : (left rulesLeft : ℕ) (used : List (List ℕ)) (vs : List Variable) (s : List ℕ) (at : ℕ) → Keeps wholeProfiles (profilesAt left rulesLeft used vs s at)
+unfolding profilesAt every
+profiles-whole zero rulesLeft used vs s at = go (ends (tokenAt noStop s at))
+  where
+    go : (b : Bool) → Keeps wholeProfiles (elim b as (λ _. Reading (List Profile)) [ true ↦ Read [] | false ↦ headAt true used s at >>= λ h. Read [] ])
+    go true = good refl
+    go false = next _ (headAt true used s at) λ h. good refl
+profiles-whole (suc left) rulesLeft used vs s at = go (ends (tokenAt noStop s at)) (λ n u. profiles-whole left n u vs s)
+  where
+    go : (b : Bool) → ((n : ℕ) (u : List (List ℕ)) (next : ℕ) → Keeps wholeProfiles (profilesAt left n u vs s next))
+        → Keeps wholeProfiles
+        (elim b as (λ _. Reading (List Profile)) [
+          | true ↦ Read []
+          | false ↦ headAt false used s at >>= λ h. rulesAt rulesLeft vs s (h .next) >>= λ rs.
+              profilesAt left (rulesLeft - length (rs .rules)) (h .name ∷ used) vs s (rs .next) >>= λ more. Read (record { name = h .name; rules = rs .rules } ∷ more)
+        ])
+    go true k = good refl
+    go false k =
+        next _ (headAt false used s at) λ h.
+        then _ (rules-whole rulesLeft vs s (h .next)) λ rs g.
+        then _ (k (rulesLeft - length (rs .rules)) (h .name ∷ used) (rs .next)) λ more e. good (ap₂ _&&_ g e)
+
+file-whole : (s : List ℕ) → Keeps (λ (f : File). wholeFile f ≡ true) (fileOf s)
+unfolding fileOf
+file-whole s = next _ (preambleAt 512 [] s 0) λ p. then _ (profiles-whole 32 512 [] (p .variables) s (p .next)) λ ps h. good h
+
+read-keeps : {A : Type 0} {P : A → Type 0} {r : Reading A} (a : A) → Keeps P r → r ≡ Read a → P a
+read-keeps {A} {P} a (good h) e = subst P (sym (inner e)) h
+read-keeps a refused e = absurd (never e)
+
+-- every rule of an accepted text is whole
+pub accepted-whole : (text : List ℕ) (f : File) → Accepted text f → wholeFile f ≡ true
+accepted-whole text f a = read-keeps f (file-whole text) (a .file)
