@@ -18,7 +18,7 @@ use Rattle.statement.specs.Steps.{rulesFrom}
 use Rattle.profile.specs.Profiles.{File, fileOf}
 use Rattle.profile.specs.Places.{Judged, Accepted, Rejected, judgedOf, profilesFrom, seenFile}
 use Rattle.profile.specs.declared.FileRead.{FileRead}
-use Rattle.findings.specs.Findings.{Request, Move, Findings, Single, findings}
+use Rattle.findings.specs.Findings.{Access, Move, Findings, Single, findings}
 use Rattle.weigh.proofs.Sound.{All, ShortMove, choice-short, rules-short}
 use Rattle.answer.specs.Answers.{answerFrom, moveOf, preferred, refusal}
 use Rattle.answer.specs.Short.{Short}
@@ -63,40 +63,40 @@ unfolding foundFrom
 found-none s t i name = refl
 
 -- the answer of the rules that were found
-abbrev pub answerOfFound : List Variable → Request → List ℕ → Found → Answer
-answerOfFound vs q s (Rules at count) = answerFrom (findings vs q (rulesFrom count vs s (at .0))) (q .asked)
-answerOfFound vs q s Nowhere = refusal 11 0
+abbrev pub answerOfFound : List Variable → Access → (asked : ℕ) → List ℕ → Found → Answer
+answerOfFound vs q asked s (Rules at count) = answerFrom (findings vs q (rulesFrom count vs s (at .0))) asked
+answerOfFound vs q asked s Nowhere = refusal 11 0
 
-pub answer-found : (vs : List Variable) (q : Request) (s t : List ℕ) (k i : ℕ) (name : List ℕ)
-    → answerIn vs q name (profilesFrom vs s t k i) ≡ answerOfFound vs q s (foundFrom s t k i name)
+pub answer-found : (vs : List Variable) (q : Access) (asked : ℕ) (s t : List ℕ) (k i : ℕ) (name : List ℕ)
+    → answerIn vs q asked name (profilesFrom vs s t k i) ≡ answerOfFound vs q asked s (foundFrom s t k i name)
 unfolding answerIn profilesFrom foundFrom
-answer-found vs q s t zero i name = refl
-answer-found vs q s t (suc k) i name = go (same (bytesAt s t (4 * i)) name) (answer-found vs q s t k (i + 1) name)
+answer-found vs q asked s t zero i name = refl
+answer-found vs q asked s t (suc k) i name = go (same (bytesAt s t (4 * i)) name) (answer-found vs q asked s t k (i + 1) name)
   where
     rules : Answer
-    rules = answerFrom (findings vs q (rulesFrom (getD t (4 * i + 3) 0) vs s (getD t (4 * i + 2) 0))) (q .asked)
+    rules = answerFrom (findings vs q (rulesFrom (getD t (4 * i + 3) 0) vs s (getD t (4 * i + 2) 0))) asked
 
-    go : (b : Bool) → answerIn vs q name (profilesFrom vs s t k (i + 1)) ≡ answerOfFound vs q s (foundFrom s t k (i + 1) name) →
-        (elim b as (λ _. Answer) [ true ↦ rules | false ↦ answerIn vs q name (profilesFrom vs s t k (i + 1)) ])
-        ≡ answerOfFound vs q s (elim b as (λ _. Found) [ true ↦ Rules (record { 0 = getD t (4 * i + 2) 0 }) (getD t (4 * i + 3) 0) | false ↦ foundFrom s t k (i + 1) name ])
+    go : (b : Bool) → answerIn vs q asked name (profilesFrom vs s t k (i + 1)) ≡ answerOfFound vs q asked s (foundFrom s t k (i + 1) name) →
+        (elim b as (λ _. Answer) [ true ↦ rules | false ↦ answerIn vs q asked name (profilesFrom vs s t k (i + 1)) ])
+        ≡ answerOfFound vs q asked s (elim b as (λ _. Found) [ true ↦ Rules (record { 0 = getD t (4 * i + 2) 0 }) (getD t (4 * i + 3) 0) | false ↦ foundFrom s t k (i + 1) name ])
     go true e = refl
     go false e = e
 
 -- by what was found
-pub answer-by : (vs : List Variable) (q : Request) (s t : List ℕ) (k : ℕ) (name : List ℕ) (r : Found) → r ≡ foundFrom s t k 0 name →
-    (x : Found) → r ≡ x → answerIn vs q name (profilesFrom vs s t k 0) ≡ answerOfFound vs q s x
-answer-by vs q s t k name r e x f = answer-found vs q s t k 0 name ∙ ap (answerOfFound vs q s) (sym e ∙ f)
+pub answer-by : (vs : List Variable) (q : Access) (asked : ℕ) (s t : List ℕ) (k : ℕ) (name : List ℕ) (r : Found) → r ≡ foundFrom s t k 0 name →
+    (x : Found) → r ≡ x → answerIn vs q asked name (profilesFrom vs s t k 0) ≡ answerOfFound vs q asked s x
+answer-by vs q asked s t k name r e x f = answer-found vs q asked s t k 0 name ∙ ap (answerOfFound vs q asked s) (sym e ∙ f)
 
 -- ---- the text's judgement
 
-abbrev pub answerOfJudged : Request → (name : List ℕ) → Judged → Answer
-answerOfJudged q n (Accepted vs ps) = answerIn vs q n ps
-answerOfJudged q n (Rejected number line) = refusal number line
+abbrev pub answerOfJudged : Access → (asked : ℕ) → (name : List ℕ) → Judged → Answer
+answerOfJudged q asked n (Accepted vs ps) = answerIn vs q asked n ps
+answerOfJudged q asked n (Rejected number line) = refusal number line
 
-pub answer-judged : (s : List ℕ) (x : Reading File) (n : List ℕ) (q : Request) → answerBy s x n q ≡ answerOfJudged q n (judgedOf s x)
+pub answer-judged : (s : List ℕ) (x : Reading File) (n : List ℕ) (q : Access) (asked : ℕ) → answerBy s x n q asked ≡ answerOfJudged q asked n (judgedOf s x)
 unfolding judgedOf
-answer-judged s (Read f) n q = refl
-answer-judged s (Refused number place) n q = refl
+answer-judged s (Read f) n q asked = refl
+answer-judged s (Refused number place) n q asked = refl
 
 -- ---- the whole answer, by the order of refusals
 
@@ -115,21 +115,21 @@ module _ (text n path : List ℕ) (asked : ℕ) (owner : Bool) where
 
   -- what was read decides
   module _ (h : length text ≤ 65535) (e : badPath path ≡ false) (k : badAsked asked ≡ false) (t : List ℕ) (r : FileRead) (g : seenFile text t r ≡ judgedOf text (fileOf text)) where
-    abbrev request : Request
-    request = record { path = path; asked = asked; owner = owner }
+    abbrev access : Access
+    access = record { path = path; owner = owner }
 
-    answer-read : {j : Judged} → seenFile text t r ≡ j → answerOf text n path asked owner ≡ answerOfJudged request n j
+    answer-read : {j : Judged} → seenFile text t r ≡ j → answerOf text n path asked owner ≡ answerOfJudged access asked n j
     unfolding answerOf
     answer-read {j} f =
         rw (le-ltb 65535 (length text) h, answerOf, e, k)
-        (answer-judged text (fileOf text) n request ∙ ap (answerOfJudged request n) (sym g ∙ f))
+        (answer-judged text (fileOf text) n access asked ∙ ap (answerOfJudged access asked n) (sym g ∙ f))
 
     pub answer-rejected : r .refused ≡ true → answerOf text n path asked owner ≡ refusal (r .refusal .number) (r .refusal .line)
     unfolding seenFile
     answer-rejected f = answer-read {j = Rejected (r .refusal .number) (r .refusal .line)} (rw f)
 
     pub answer-accepted : r .refused ≡ false → {a : Answer} →
-        a ≡ answerIn (env text t (r .vars)) request n (profilesFrom (env text t (r .vars)) text (r .profiles) (r .count) 0) →
+        a ≡ answerIn (env text t (r .vars)) access asked n (profilesFrom (env text t (r .vars)) text (r .profiles) (r .count) 0) →
         a ≡ answerOf text n path asked owner
     unfolding seenFile
     answer-accepted f i =
@@ -142,7 +142,7 @@ preferred-all : (P : Move → Type 0) (xs ys : List Move) → All P xs → All P
 preferred-all P [] ys h k = k
 preferred-all P (x ∷ xs) ys h k = h
 
-pub move-short : (vs : List Variable) (q : Request) (s : List ℕ) (k at : ℕ) → Short (moveOf (findings vs q (rulesFrom k vs s at)))
+pub move-short : (vs : List Variable) (q : Access) (s : List ℕ) (k at : ℕ) → Short (moveOf (findings vs q (rulesFrom k vs s at)))
 unfolding moveOf
 move-short vs q s k at m e =
     let h = rules-short vs q s k at in

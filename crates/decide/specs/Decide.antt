@@ -10,22 +10,22 @@ use Rattle.request.specs.Requests.{badAsked, badPath}
 use Rattle.pattern.specs.Expansions.{Variable}
 use Rattle.preamble.specs.Variables.{finalSets}
 use Rattle.profile.specs.Profiles.{File, Profile, fileOf}
-use Rattle.findings.specs.Findings.{Request, findings}
+use Rattle.findings.specs.Findings.{Access, findings}
 use Rattle.answer.specs.Answers.{answerFrom, refusal}
 use Rattle.answer.specs.declared.Answer.{Answer}
 
 -- the answer of the profile of that name; 11: "no profile with that name"
-unfoldable pub answerIn : List Variable → Request → (name : List ℕ) → List Profile → Answer
-answerIn vs q n [] = refusal 11 0
-answerIn vs q n (p ∷ ps) =
+unfoldable pub answerIn : List Variable → Access → (asked : ℕ) → (name : List ℕ) → List Profile → Answer
+answerIn vs q asked n [] = refusal 11 0
+answerIn vs q asked n (p ∷ ps) =
     elim (same (p .name) n) [
-      | true ↦ answerFrom (findings vs q (p .rules)) (q .asked)
-      | false ↦ answerIn vs q n ps
+      | true ↦ answerFrom (findings vs q (p .rules)) asked
+      | false ↦ answerIn vs q asked n ps
     ]
 
-abbrev pub answerBy : List ℕ → Reading File → (name : List ℕ) → Request → Answer
-answerBy text (Read f) n q = answerIn (finalSets [] (f .preamble)) q n (f .profiles)
-answerBy text (Refused number place) n q = refusal number (lineOf text place)
+abbrev pub answerBy : List ℕ → Reading File → (name : List ℕ) → Access → (asked : ℕ) → Answer
+answerBy text (Read f) n q asked = answerIn (finalSets [] (f .preamble)) q asked n (f .profiles)
+answerBy text (Refused number place) n q asked = refusal number (lineOf text place)
 
 -- "Order: 1, 2, 3, then the text, first offending token in reading order, then 11."
 unfoldable pub answerOf : (text name path : List ℕ) (asked : ℕ) (owner : Bool) → Answer
@@ -39,7 +39,7 @@ answerOf text n path asked owner =
                 elim (badAsked asked) [
                   | true ↦ refusal 3 0
                   | false ↦
-                      answerBy text (fileOf text) n (record { path = path; asked = asked; owner = owner })
+                      answerBy text (fileOf text) n (record { path = path; owner = owner }) asked
                 ]
           ]
     ]

@@ -68,7 +68,7 @@ fn answer_in<'a>(
     requires { ⌜ count ≤ 32 ⌝ }
     requires { ⌜ Known (now text) (now vars) n (now sizes) ⌝ }
     requires { ⌜ Fits (now text) (now path) ⌝ }
-    ensures { λ r. ⌜ r ≡ answerIn (env (now (text .entry)) (now (vars .entry)) n) (record { path = now (path .entry); asked = asked .0; owner = owner }) (now (name .entry)) (profilesFrom (env (now (text .entry)) (now (vars .entry)) n) (now (text .entry)) (now (profiles .entry)) count 0) ⌝ }
+    ensures { λ r. ⌜ r ≡ answerIn (env (now (text .entry)) (now (vars .entry)) n) (record { path = now (path .entry); owner = owner }) (asked .0) (now (name .entry)) (profilesFrom (env (now (text .entry)) (now (vars .entry)) n) (now (text .entry)) (now (profiles .entry)) count 0) ⌝ }
 {
     let r = find(text, profiles, count, name);
     let Found::Rules { at, count: rules } = r else {

@@ -10,7 +10,7 @@ use Rattle.perms.specs.Sets.{has, setOf}
 use Rattle.perms.proofs.Laws.{has-or, has-set, set-eq, set-lt}
 use Rattle.pattern.specs.Expansions.{Variable}
 use Rattle.rule.specs.Rules.{Rule}
-use Rattle.findings.specs.Findings.{Request, Move, allows, audited, denies, exactly, otherwise, applies, those, bits, moveBy, moves, findings, join}
+use Rattle.findings.specs.Findings.{Access, Move, allows, audited, denies, exactly, otherwise, applies, those, bits, moveBy, moves, findings, join}
 
 those-append : (p : Rule → Bool) (xs ys : List Rule) → those p (xs ++ ys) ≡ those p xs ++ those p ys
 unfolding those
@@ -55,7 +55,7 @@ part-append : {A : Type 0} (part : List Rule → A) (put : A → A → A) → ((
     → (p : Rule → Bool) (xs ys : List Rule) → part (those p (xs ++ ys)) ≡ put (part (those p xs)) (part (those p ys))
 part-append part put law p xs ys = ap part (those-append p xs ys) ∙ law (those p xs) (those p ys)
 
-module _ (vs : List Variable) (q : Request) (xs ys : List Rule) where
+module _ (vs : List Variable) (q : Access) (xs ys : List Rule) where
   bits-joined : (p : Rule → Bool) → bits p (those (applies vs q) (xs ++ ys)) ≡ bitOr (bits p (those (applies vs q) xs)) (bits p (those (applies vs q) ys))
   bits-joined p = part-append (bits p) bitOr (bits-append p) (applies vs q) xs ys
 

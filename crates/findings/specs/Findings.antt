@@ -14,10 +14,9 @@ use Rattle.pattern.specs.Expansions.{Variable}
 use Rattle.matcher.specs.Match.{matchesSome, matchesExactly}
 use Rattle.rule.specs.Rules.{Rule}
 
--- a file request
-pub record Request : Type 0 where
+-- what is to be accessed, and whether the request's owner mark is set
+pub record Access : Type 0 where
   pub path : List ℕ
-  pub asked : ℕ
   pub owner : Bool
 
 -- document 01's transition: "mode and target bytes"
@@ -34,7 +33,7 @@ pub record Findings : Type 0 where
   pub others : List Move
 
 -- "A rule matches a request when its pattern matches and, if it says owner, the request's owner mark is set."
-unfoldable pub applies : List Variable → Request → Rule → Bool
+unfoldable pub applies : List Variable → Access → Rule → Bool
 applies vs q r = (not (r .owner) || q .owner) && matchesSome vs (r .pattern) (q .path)
 
 -- the rules of a list of which p holds
@@ -66,15 +65,15 @@ abbrev pub audited : (Rule → Bool) → Rule → Bool
 audited p r = p r && r .audit
 
 -- an allow rule that matches the path exactly; one that matches it otherwise
-abbrev pub exactly : List Variable → Request → Rule → Bool
+abbrev pub exactly : List Variable → Access → Rule → Bool
 exactly vs q r = allows r && matchesExactly vs (r .pattern) (q .path)
 
-abbrev pub otherwise : List Variable → Request → Rule → Bool
+abbrev pub otherwise : List Variable → Access → Rule → Bool
 otherwise vs q r = allows r && not (matchesExactly vs (r .pattern) (q .path))
 
 -- "bits carried by matching allow rules; those among them from audit rules; bits carried by matching deny rules; those from audit
 -- rules; the set of transitions of exact matches; the same of other matches"
-unfoldable pub findings : List Variable → Request → List Rule → Findings
+unfoldable pub findings : List Variable → Access → List Rule → Findings
 findings vs q rs =
     let m : List Rule = those (applies vs q) rs in
     record {

@@ -10,11 +10,11 @@ use Rattle.scan.proofs.Laws.{some-append}
 use Rattle.perms.proofs.Laws.{or-associative}
 use Rattle.pattern.specs.Expansions.{Variable}
 use Rattle.rule.specs.Rules.{Rule}
-use Rattle.findings.specs.Findings.{Request, Move, Findings, those, bits, moves, findings, join, sameMove, SameMembers, Equal}
+use Rattle.findings.specs.Findings.{Access, Move, Findings, those, bits, moves, findings, join, sameMove, SameMembers, Equal}
 use Rattle.findings.proofs.Joining.{findings-append}
 
 -- "the findings of the one list followed by the other are both lists' findings joined"
-pub joined : (vs : List Variable) (q : Request) (xs ys : List Rule) → findings vs q (xs ++ ys) ≡ join (findings vs q xs) (findings vs q ys)
+pub joined : (vs : List Variable) (q : Access) (xs ys : List Rule) → findings vs q (xs ++ ys) ≡ join (findings vs q xs) (findings vs q ys)
 joined = findings-append
 
 -- ---- joining
@@ -61,7 +61,7 @@ join-self f = record {
     self : (xs : List Move) → SameMembers (xs ++ xs) xs
     self xs m = members-append m xs xs ∙ or-self (some (sameMove m) xs)
 
-pub join-none : (vs : List Variable) (q : Request) (f : Findings) → join (findings vs q []) f ≡ f
+pub join-none : (vs : List Variable) (q : Access) (f : Findings) → join (findings vs q []) f ≡ f
 unfolding join findings those bits moves some
 join-none vs q f = λ i. record {
   allowed = or-zero-l (f .allowed) i;

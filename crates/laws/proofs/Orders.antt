@@ -18,7 +18,7 @@ use Rattle.pattern.specs.Expansions.{Variable}
 use Rattle.rule.specs.Rules.{Rule}
 use Rattle.preamble.specs.Variables.{finalSets}
 use Rattle.profile.specs.Profiles.{Profile, File, fileOf}
-use Rattle.findings.specs.Findings.{Request, Move, Findings, applies, allows, audited, denies, exactly, otherwise, those, bits, moveBy, moves, findings, sameMove, SameMembers, Equal, Choice, None, Single, Several, choice}
+use Rattle.findings.specs.Findings.{Access, Move, Findings, applies, allows, audited, denies, exactly, otherwise, those, bits, moveBy, moves, findings, sameMove, SameMembers, Equal, Choice, None, Single, Several, choice}
 use Rattle.answer.specs.Answers.{preferred, chosen, isMode, namedBy, targetOf, moveOf, executeOf, grants, answerFrom, refusal}
 use Rattle.request.specs.Requests.{badPath, badAsked}
 use Rattle.decide.specs.Decide.{answerIn, answerBy, answerOf}
@@ -30,7 +30,7 @@ use Rattle.laws.proofs.Parts.{some-same, some-kept, some-grows, bitTest
 
 -- ---- the same rules
 
-module _ (vs : List Variable) (q : Request) where
+module _ (vs : List Variable) (q : Access) where
   bits-same : (p : Rule → Bool) (xs ys : List Rule) → ((k : ℕ) → some (bitTest vs q p k) xs ≡ some (bitTest vs q p k) ys)
       → bits p (those (applies vs q) xs) ≡ bits p (those (applies vs q) ys)
   bits-same p xs ys h = bits-by vs q p xs ∙ (λ i. setOf 7 (λ k. h k i)) ∙ sym (bits-by vs q p ys)
@@ -49,16 +49,16 @@ module _ (vs : List Variable) (q : Request) where
 -- ---- answers by profile and by text
 
 -- what holds of the answers from two rule lists related by R, and of a refusal with itself, holds of the answers of paired profiles
-module _ (R : List Rule → List Rule → Type 0) (S : Answer → Answer → Type 0) (vs : List Variable) (q : Request) (self : (n line : ℕ) → S (refusal n line) (refusal n line))
-    (step : (xs ys : List Rule) → R xs ys → S (answerFrom (findings vs q xs) (q .asked)) (answerFrom (findings vs q ys) (q .asked))) where
-  profiles-by : (n : List ℕ) (ps qs : List Profile) → Paired R ps qs → S (answerIn vs q n ps) (answerIn vs q n qs)
+module _ (R : List Rule → List Rule → Type 0) (S : Answer → Answer → Type 0) (vs : List Variable) (q : Access) (asked : ℕ) (self : (n line : ℕ) → S (refusal n line) (refusal n line))
+    (step : (xs ys : List Rule) → R xs ys → S (answerFrom (findings vs q xs) asked) (answerFrom (findings vs q ys) asked)) where
+  profiles-by : (n : List ℕ) (ps qs : List Profile) → Paired R ps qs → S (answerIn vs q asked n ps) (answerIn vs q asked n qs)
   unfolding answerIn
   profiles-by n ps qs none = self 11 0
   profiles-by n ps qs (both {ps = us} {qs = ws} p r e h more) = go (same (p .name) n) (same (r .name) n) (ap (λ (m : List ℕ). same m n) e) (profiles-by n us ws more)
     where
-      go : (a b : Bool) → a ≡ b → S (answerIn vs q n us) (answerIn vs q n ws)
-          → S (elim a as (λ _. Answer) [ true ↦ answerFrom (findings vs q (p .rules)) (q .asked) | false ↦ answerIn vs q n us ])
-          (elim b as (λ _. Answer) [ true ↦ answerFrom (findings vs q (r .rules)) (q .asked) | false ↦ answerIn vs q n ws ])
+      go : (a b : Bool) → a ≡ b → S (answerIn vs q asked n us) (answerIn vs q asked n ws)
+          → S (elim a as (λ _. Answer) [ true ↦ answerFrom (findings vs q (p .rules)) asked | false ↦ answerIn vs q asked n us ])
+          (elim b as (λ _. Answer) [ true ↦ answerFrom (findings vs q (r .rules)) asked | false ↦ answerIn vs q asked n ws ])
       go true true e k = step (p .rules) (r .rules) h
       go true false e k = absurd (false≢true (sym e))
       go false true e k = absurd (false≢true e)
@@ -66,29 +66,29 @@ module _ (R : List Rule → List Rule → Type 0) (S : Answer → Answer → Typ
 
 pub texts-by : (R : List Rule → List Rule → Type 0) (S : Answer → Answer → Type 0) (s t name path : List ℕ) (asked : ℕ) (owner : Bool) (f g : File)
     → ((n line : ℕ) → S (refusal n line) (refusal n line))
-    → ((vs : List Variable) (xs ys : List Rule) → R xs ys → S (answerFrom (findings vs (record { path = path; asked = asked; owner = owner }) xs) asked) (answerFrom (findings vs (record { path = path; asked = asked; owner = owner }) ys) asked))
+    → ((vs : List Variable) (xs ys : List Rule) → R xs ys → S (answerFrom (findings vs (record { path = path; owner = owner }) xs) asked) (answerFrom (findings vs (record { path = path; owner = owner }) ys) asked))
     → Accepted s f → Accepted t g → SameButRules R f g
     → S (answerOf s name path asked owner) (answerOf t name path asked owner)
 unfolding answerOf
 texts-by R S s t name path asked owner f g self step a b same =
     rw (le-ltb 65535 (length s) (a .short), le-ltb 65535 (length t) (b .short), answerOf) (go (badPath path) (badAsked asked))
   where
-    q : Request
-    q = record { path = path; asked = asked; owner = owner }
+    q : Access
+    q = record { path = path; owner = owner }
 
     vs : List Variable
     vs = finalSets [] (g .preamble)
 
-    files : S (answerIn (finalSets [] (f .preamble)) q name (f .profiles)) (answerIn vs q name (g .profiles))
-    files = subst (λ (l : List Variable). S (answerIn l q name (f .profiles)) (answerIn vs q name (g .profiles))) (sym (ap (finalSets []) (same .preamble)))
-        (profiles-by R S vs q self (step vs) name (f .profiles) (g .profiles) (same .profiles))
+    files : S (answerIn (finalSets [] (f .preamble)) q asked name (f .profiles)) (answerIn vs q asked name (g .profiles))
+    files = subst (λ (l : List Variable). S (answerIn l q asked name (f .profiles)) (answerIn vs q asked name (g .profiles))) (sym (ap (finalSets []) (same .preamble)))
+        (profiles-by R S vs q asked self (step vs) name (f .profiles) (g .profiles) (same .profiles))
 
-    read : S (answerBy s (fileOf s) name q) (answerBy t (fileOf t) name q)
+    read : S (answerBy s (fileOf s) name q asked) (answerBy t (fileOf t) name q asked)
     read = rw (a .file, b .file) files
 
     go : (x y : Bool) → S
-        (elim x as (λ _. Answer) [ true ↦ refusal 2 0 | false ↦ elim y as (λ _. Answer) [ true ↦ refusal 3 0 | false ↦ answerBy s (fileOf s) name q ] ])
-        (elim x as (λ _. Answer) [ true ↦ refusal 2 0 | false ↦ elim y as (λ _. Answer) [ true ↦ refusal 3 0 | false ↦ answerBy t (fileOf t) name q ] ])
+        (elim x as (λ _. Answer) [ true ↦ refusal 2 0 | false ↦ elim y as (λ _. Answer) [ true ↦ refusal 3 0 | false ↦ answerBy s (fileOf s) name q asked ] ])
+        (elim x as (λ _. Answer) [ true ↦ refusal 2 0 | false ↦ elim y as (λ _. Answer) [ true ↦ refusal 3 0 | false ↦ answerBy t (fileOf t) name q asked ] ])
     go true y = self 2 0
     go false true = self 3 0
     go false false = read
@@ -100,8 +100,8 @@ any-order s t name path asked owner f g a b same =
     texts-by SameRules (λ x y. x ≡ y) s t name path asked owner f g (λ n line. refl)
     (λ vs xs ys h. answer-fixed (findings vs q xs) (findings vs q ys) asked (findings-same vs q xs ys h)) a b same
   where
-    q : Request
-    q = record { path = path; asked = asked; owner = owner }
+    q : Access
+    q = record { path = path; owner = owner }
 
 -- ---- what a granted bit says
 
@@ -164,7 +164,7 @@ mode-is (ByMode m) h = (m, refl)
 
 -- ---- deny rules added
 
-module _ (vs : List Variable) (q : Request) (xs ys : List Rule) (a : Added denies xs ys) where
+module _ (vs : List Variable) (q : Access) (xs ys : List Rule) (a : Added denies xs ys) where
   no-deny : (p t : Rule → Bool) (r : Rule) → denies r ≡ true → ((r : Rule) → denies r ≡ true → p r ≡ false) → (applies vs q r && (p r && t r)) ≡ false
   no-deny p t r e h = rw (h r e) (and-false (applies vs q r))
 
@@ -204,7 +204,7 @@ target-is : (f : Findings) (asked : ℕ) → answerFrom f asked .target ≡ targ
 unfolding answerFrom
 target-is f asked = refl
 
-module _ (vs : List Variable) (q : Request) (asked : ℕ) (xs ys : List Rule) (a : Added denies xs ys) where
+module _ (vs : List Variable) (q : Access) (asked : ℕ) (xs ys : List Rule) (a : Added denies xs ys) where
   deny-mode : (m : Mode) → executeOf (findings vs q ys) asked ≡ ByMode m → executeOf (findings vs q xs) asked ≡ ByMode m
   unfolding executeOf
   deny-mode m e =
@@ -283,7 +283,7 @@ some-mode None e = absurd (false≢true (sym e))
 some-mode (Single m) e = inl refl
 some-mode Several e = inr refl
 
-module _ (vs : List Variable) (q : Request) (xs ys : List Rule) (a : Added allows xs ys) where
+module _ (vs : List Variable) (q : Access) (xs ys : List Rule) (a : Added allows xs ys) where
   no-allow : (p t : Rule → Bool) (r : Rule) → allows r ≡ true → ((r : Rule) → allows r ≡ true → p r ≡ false) → (applies vs q r && (p r && t r)) ≡ false
   no-allow p t r e h = rw (h r e) (and-false (applies vs q r))
 
@@ -310,7 +310,7 @@ module _ (vs : List Variable) (q : Request) (xs ys : List Rule) (a : Added allow
       (or-cases (some any (findings vs q xs .exact)) (some any (findings vs q xs .others))
       (not-false (some any (findings vs q xs .exact) || some any (findings vs q xs .others)) (sym (move-none (findings vs q xs)) ∙ e))))
 
-module _ (vs : List Variable) (q : Request) (asked : ℕ) (xs ys : List Rule) (a : Added allows xs ys) where
+module _ (vs : List Variable) (q : Access) (asked : ℕ) (xs ys : List Rule) (a : Added allows xs ys) where
   allow-granted : (k : ℕ) → k < 7 → (not (eqb k 6) || isMode (executeOf (findings vs q ys) asked)) ≡ true → Granted (findings vs q xs) asked k → Granted (findings vs q ys) asked k
   allow-granted k h s w =
       record {
@@ -361,7 +361,7 @@ pub deny-added : (s t name path : List ℕ) (asked : ℕ) (owner : Bool) (f g : 
     → NoMore (answerOf s name path asked owner) (answerOf t name path asked owner)
 deny-added s t name path asked owner f g a b same =
     texts-by (Added denies) NoMore s t name path asked owner f g refusal-no-more
-    (λ vs xs ys h. deny-less vs (record { path = path; asked = asked; owner = owner }) asked xs ys h) a b same
+    (λ vs xs ys h. deny-less vs (record { path = path; owner = owner }) asked xs ys h) a b same
 
 -- "With allow rules added, wherever, every granted bit but execute stays granted; execute may be lost only to a conflict, and its
 -- transition may change."
@@ -369,14 +369,14 @@ pub allow-added : (s t name path : List ℕ) (asked : ℕ) (owner : Bool) (f g :
     → NoLess (answerOf s name path asked owner) (answerOf t name path asked owner)
 allow-added s t name path asked owner f g a b same =
     texts-by (Added allows) NoLess s t name path asked owner f g refusal-no-less
-    (λ vs xs ys h. allow-no-less vs (record { path = path; asked = asked; owner = owner }) asked xs ys h) a b same
+    (λ vs xs ys h. allow-no-less vs (record { path = path; owner = owner }) asked xs ys h) a b same
 
 -- ---- other profiles
 
-held : (vs : List Variable) (q : Request) (n : List ℕ) (rs : List Rule) (ps : List Profile) → Holds n rs ps → answerIn vs q n ps ≡ answerFrom (findings vs q rs) (q .asked)
+held : (vs : List Variable) (q : Access) (asked : ℕ) (n : List ℕ) (rs : List Rule) (ps : List Profile) → Holds n rs ps → answerIn vs q asked n ps ≡ answerFrom (findings vs q rs) asked
 unfolding answerIn
-held vs q n rs ps (here p e r) = rw (e, answerIn) (ap (λ (l : List Rule). answerFrom (findings vs q l) (q .asked)) r)
-held vs q n rs ps (later {ps = us} p e h) = rw (e, answerIn) (held vs q n rs us h)
+held vs q asked n rs ps (here p e r) = rw (e, answerIn) (ap (λ (l : List Rule). answerFrom (findings vs q l) asked) r)
+held vs q asked n rs ps (later {ps = us} p e h) = rw (e, answerIn) (held vs q asked n rs us h)
 
 -- refusals 2 and 3 come first
 abbrev checked : (path asked : Bool) → Answer → Answer
@@ -387,18 +387,18 @@ checked false false a = a
 -- an accepted text that holds the asked profile answers by its rules
 answered : (s name path : List ℕ) (asked : ℕ) (owner : Bool) (f : File) (rs : List Rule) → Accepted s f → Holds name rs (f .profiles)
     → answerOf s name path asked owner
-    ≡ checked (badPath path) (badAsked asked) (answerFrom (findings (finalSets [] (f .preamble)) (record { path = path; asked = asked; owner = owner }) rs) asked)
+    ≡ checked (badPath path) (badAsked asked) (answerFrom (findings (finalSets [] (f .preamble)) (record { path = path; owner = owner }) rs) asked)
 unfolding answerOf
 answered s name path asked owner f rs a h = rw (le-ltb 65535 (length s) (a .short), answerOf) (go (badPath path) (badAsked asked))
   where
-    q : Request
-    q = record { path = path; asked = asked; owner = owner }
+    q : Access
+    q = record { path = path; owner = owner }
 
-    inner : answerBy s (fileOf s) name q ≡ answerFrom (findings (finalSets [] (f .preamble)) q rs) asked
-    inner = rw (a .file) (held (finalSets [] (f .preamble)) q name rs (f .profiles) h)
+    inner : answerBy s (fileOf s) name q asked ≡ answerFrom (findings (finalSets [] (f .preamble)) q rs) asked
+    inner = rw (a .file) (held (finalSets [] (f .preamble)) q asked name rs (f .profiles) h)
 
     go : (x y : Bool)
-        → _≡_ {A = Answer} (elim x as (λ _. Answer) [ true ↦ refusal 2 0 | false ↦ elim y as (λ _. Answer) [ true ↦ refusal 3 0 | false ↦ answerBy s (fileOf s) name q ] ])
+        → _≡_ {A = Answer} (elim x as (λ _. Answer) [ true ↦ refusal 2 0 | false ↦ elim y as (λ _. Answer) [ true ↦ refusal 3 0 | false ↦ answerBy s (fileOf s) name q asked ] ])
         (checked x y (answerFrom (findings (finalSets [] (f .preamble)) q rs) asked))
     go true y = refl
     go false true = refl
@@ -415,5 +415,5 @@ other-profiles s t name path asked owner f g xs ys a b same hx hy rules =
     ∙ ap (λ (vs : List Variable). answerFrom (findings vs q ys) asked) (ap (finalSets []) same))
     ∙ sym (answered t name path asked owner g ys b hy)
   where
-    q : Request
-    q = record { path = path; asked = asked; owner = owner }
+    q : Access
+    q = record { path = path; owner = owner }

@@ -11,7 +11,7 @@ use Rattle.perms.proofs.Laws.{has-set}
 use Rattle.matcher.proofs.Laws.{iff, or-cases, or-r}
 use Rattle.pattern.specs.Expansions.{Variable}
 use Rattle.rule.specs.Rules.{Rule}
-use Rattle.findings.specs.Findings.{Request, Move, applies, those, bits, moveBy, moves}
+use Rattle.findings.specs.Findings.{Access, Move, applies, those, bits, moveBy, moves}
 use Rattle.laws.specs.Orders.{SameRules, Added, none, kept, added}
 
 -- ---- some rule passes a test
@@ -73,7 +73,7 @@ some-moves m t (r ∷ rs) = go (t r) (some-moves m t rs)
     go true e = some-append m mine (moves t rs) ∙ ap (λ (x : Bool). some m mine || x) e
     go false e = e
 
-module _ (vs : List Variable) (q : Request) where
+module _ (vs : List Variable) (q : Access) where
   -- the test of a bit: the rule matches, is of the kind, and carries it
   abbrev pub bitTest : (Rule → Bool) → ℕ → Rule → Bool
   bitTest p k r = applies vs q r && (p r && has (r .perms .0) k)

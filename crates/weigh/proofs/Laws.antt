@@ -29,7 +29,7 @@ use Rattle.statement.specs.Steps.{Step, ruleAt, ruleThen, rulesFrom}
 use Rattle.statement.specs.Places.{seenStep}
 use Rattle.statement.specs.declared as code
 use Rattle.statement.specs.declared.Step.the-variants as step
-use Rattle.findings.specs.Findings.{Request, Move, Findings, Choice, allows, applies, audited, bits, choice, denies, exactly, findings, join, moveBy, moves, otherwise, those}
+use Rattle.findings.specs.Findings.{Access, Move, Findings, Choice, allows, applies, audited, bits, choice, denies, exactly, findings, join, moveBy, moves, otherwise, those}
 use Rattle.findings.specs.Weighed.{Weighed, allowing, denying, nothing, weighed, withTransition}
 use Rattle.findings.proofs.Joining.{findings-append}
 use Rattle.findings.proofs.Laws.{choice-by}
@@ -75,7 +75,7 @@ module _ (vs : List Variable) (r : Rule) (h : Sound vs r) where
       go false = ap choice (append-nil ms)
   moves-more p false ms = ap choice (append-nil ms)
 
-  module _ (q : Request) (f : Findings) where
+  module _ (q : Access) (f : Findings) where
     -- by whether the rule matches, denies, matches exactly
     by-kind : (b deny exact : Bool) →
         _≡_ {A = Weighed} (record {
@@ -144,7 +144,7 @@ unfoldable pub gathered : (text : List ℕ) → List Variable → (path : List �
 gathered text vs path owner [] w = w
 gathered text vs path owner (r ∷ rs) w = gathered text vs path owner rs (weighedBy owner (matchedOf text vs (r .pattern) path) r w)
 
-module _ (text : List ℕ) (vs : List Variable) (q : Request) (fits : Fits text (q .path)) where
+module _ (text : List ℕ) (vs : List Variable) (q : Access) (fits : Fits text (q .path)) where
   abbrev gather : List Rule → Weighed → Weighed
   gather rs w = gathered text vs (q .path) (q .owner) rs w
 

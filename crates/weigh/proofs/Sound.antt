@@ -27,7 +27,7 @@ use Rattle.names.specs.Names.{nameForm}
 use Rattle.rule.specs.Rules.{Rule, RuleRead, Qualifiers, patternAt, qualifiersAt, ruleFrom}
 use Rattle.rule_tail.specs.Tails.{Permissions, Target, carriedBy, commaAt, permsAt, takesTarget, targetAt}
 use Rattle.statement.specs.Steps.{Step, More, Close, ruleAt, ruleThen, rulesFrom}
-use Rattle.findings.specs.Findings.{Request, Move, Choice, Single, Several, applies, choice, exactly, findings, moveBy, moves, otherwise, sameMove, those}
+use Rattle.findings.specs.Findings.{Access, Move, Choice, Single, Several, applies, choice, exactly, findings, moveBy, moves, otherwise, sameMove, those}
 
 -- the pattern has no fault, the permissions are some of the seven, the target fits an answer
 pub record Sound (vs : List Variable) (r : Rule) : Type 0 where
@@ -225,7 +225,7 @@ moves-short vs p (r ∷ rs) h = go (p r) (moves-short vs p rs (h .1))
     go true k = move-short (r .transition) (r .target) (moves p rs) (h .0 .short) k
     go false k = k
 
-module _ (vs : List Variable) (q : Request) (rs : List Rule) (h : All (Sound vs) rs) where
+module _ (vs : List Variable) (q : Access) (rs : List Rule) (h : All (Sound vs) rs) where
   -- the transitions of the matching rules of which p holds
   pub matching-short : (p : Rule → Bool) → All ShortMove (moves p (those (applies vs q) rs))
   matching-short p = moves-short vs p (those (applies vs q) rs) (those-all (Sound vs) (applies vs q) rs h)
@@ -235,7 +235,7 @@ module _ (vs : List Variable) (q : Request) (rs : List Rule) (h : All (Sound vs)
   findings-short = (matching-short (exactly vs q), matching-short (otherwise vs q))
 
 -- of rules that were read
-pub rules-short : (vs : List Variable) (q : Request) (s : List ℕ) (k at : ℕ) →
+pub rules-short : (vs : List Variable) (q : Access) (s : List ℕ) (k at : ℕ) →
     All ShortMove (findings vs q (rulesFrom k vs s at) .exact) × All ShortMove (findings vs q (rulesFrom k vs s at) .others)
 rules-short vs q s k at = findings-short vs q (rulesFrom k vs s at) (rules-sound vs s k at)
 

@@ -86,9 +86,8 @@ pub fn findings_of(
 ) -> Findings
     ensures { λ r. ⌜ (Known (now (text .entry)) (now (vars .entry)) n (now (sizes .entry)) →
         Fits (now (text .entry)) (now (path .entry)) →
-        (asked : ℕ) →
         seenFindings (now (text .entry)) r
-        ≡ weighed (findings (env (now (text .entry)) (now (vars .entry)) n) (record { path = now (path .entry); asked = asked; owner = owner }) (rulesFrom count (env (now (text .entry)) (now (vars .entry)) n) (now (text .entry)) (at .0)))) ⌝ }
+        ≡ weighed (findings (env (now (text .entry)) (now (vars .entry)) n) (record { path = now (path .entry); owner = owner }) (rulesFrom count (env (now (text .entry)) (now (vars .entry)) n) (now (text .entry)) (at .0)))) ⌝ }
 {
     let mut found = no_findings();
     let mut place = at;

@@ -2,7 +2,7 @@ use denote.Ref.{now}
 use mathlib.Core.Path.{sym, _∙_}
 use Rattle.pattern.specs.Table.{env}
 use Rattle.statement.specs.Steps.{rulesFrom}
-use Rattle.findings.specs.Findings.{Request, findings}
+use Rattle.findings.specs.Findings.{Access, findings}
 use Rattle.decide.proofs.Laws.{answer-by, move-short}
 use borrow.Author.Needs.{needs}
 use Rattle.decide.proofs.answer_in.Statement.{statement}
@@ -26,8 +26,8 @@ returns c =
     let c-args = c .before .before .before .before .before .before .before .args in
     let s = now (c-args .text) in
     let vs = env s (now (c-args .vars)) (c-args .n) in
-    let q : Request = record { path = now (c-args .path); asked = c-args .asked .0; owner = c-args .owner } in
-    c .refused .ensures ∙ sym (answer-by vs q s (now (c-args .profiles)) (c-args .count) (now (c-args .name)) (c-find .result) (c-find .ensures) _ (c .before .enum-told .given .1))
+    let q : Access = record { path = now (c-args .path); owner = c-args .owner } in
+    c .refused .ensures ∙ sym (answer-by vs q (c-args .asked .0) s (now (c-args .profiles)) (c-args .count) (now (c-args .name)) (c-find .result) (c-find .ensures) _ (c .before .enum-told .given .1))
 
 findings-of-requires : tie.Need-findings-of-requires
 findings-of-requires c κs = search needs
@@ -43,11 +43,11 @@ returns-2 c =
     let c-pre = c .before .before .before .before .before .before .before .before .before .pre in
     let s = now (c-args .text) in
     let vs = env s (now (c-args .vars)) (c-args .n) in
-    let q : Request = record { path = now (c-args .path); asked = c-args .asked .0; owner = c-args .owner } in
+    let q : Access = record { path = now (c-args .path); owner = c-args .owner } in
     let k = c-r .given .0 .1 .0 in
     let at = c-r .given .0 .0 .0 in
-    c .finish .ensures (findings vs q (rulesFrom k vs s at)) (c .before .findings-of .ensures (c-pre .1 .0) (c-pre .1 .1) (c-args .asked .0)) (move-short vs q s k at)
-    ∙ sym (answer-by vs q s (now (c-args .profiles)) (c-args .count) (now (c-args .name)) (c-find .result) (c-find .ensures) _ (c-r .given .1))
+    c .finish .ensures (findings vs q (rulesFrom k vs s at)) (c .before .findings-of .ensures (c-pre .1 .0) (c-pre .1 .1)) (move-short vs q s k at)
+    ∙ sym (answer-by vs q (c-args .asked .0) s (now (c-args .profiles)) (c-args .count) (now (c-args .name)) (c-find .result) (c-find .ensures) _ (c-r .given .1))
 
 pub answer-in-spec : {M : Type 1} → statement M
 answer-in-spec =

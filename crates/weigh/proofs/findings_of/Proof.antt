@@ -68,10 +68,10 @@ returns c =
     let vs = env s (now (a .vars)) (a .n) in
     let w = seenFindings s (l .found) in
     let e : a .count - l .i ≡ suc (a .count - (l .i + 1)) = omega arith in
-    λ k fits asked.
+    λ k fits.
     sym (gather-close vs s (now (a .path)) (a .owner) (l .place .0) w (a .count - (l .i + 1)) (c .before .before .rule-at .ensures .0 k) (c .enum-told .given .1))
     ∙ (rw e at (l .inv .1 k fits))
-    ∙ gathered-rules s vs (record { path = now (a .path); asked = asked; owner = a .owner }) fits (a .count) (a .at .0)
+    ∙ gathered-rules s vs (record { path = now (a .path); owner = a .owner }) fits (a .count) (a .at .0)
 
 enum-told-2 : tie.Need-enum-told-2 Inv-loop μ-loop
 enum-told-2 c = search needs
@@ -84,10 +84,10 @@ returns-2 c =
     let vs = env s (now (a .vars)) (a .n) in
     let w = seenFindings s (l .found) in
     let e : a .count - l .i ≡ suc (a .count - (l .i + 1)) = omega arith in
-    λ k fits asked.
+    λ k fits.
     sym (gather-refused vs s (now (a .path)) (a .owner) (l .place .0) w (a .count - (l .i + 1)) (c .before .before .rule-at .ensures .0 k) (c .enum-told2 .given .1))
     ∙ (rw e at (l .inv .1 k fits))
-    ∙ gathered-rules s vs (record { path = now (a .path); asked = asked; owner = a .owner }) fits (a .count) (a .at .0)
+    ∙ gathered-rules s vs (record { path = now (a .path); owner = a .owner }) fits (a .count) (a .at .0)
 
 returns-3 : tie.Need-returns-3 Inv-loop μ-loop
 returns-3 c =
@@ -97,10 +97,10 @@ returns-3 c =
     let vs = env s (now (a .vars)) (a .n) in
     let w = seenFindings s (l .found) in
     let e : a .count - l .i ≡ 0 = omega arith in
-    λ k fits asked.
+    λ k fits.
     sym (gather-end vs s (now (a .path)) (a .owner) (l .place .0) w)
     ∙ (rw e at (l .inv .1 k fits))
-    ∙ gathered-rules s vs (record { path = now (a .path); asked = asked; owner = a .owner }) fits (a .count) (a .at .0)
+    ∙ gathered-rules s vs (record { path = now (a .path); owner = a .owner }) fits (a .count) (a .at .0)
 
 pub findings-of-spec : {M : Type 1} → statement M
 findings-of-spec =
