@@ -4,7 +4,6 @@ use mathlib.Core.Path.{_≡_}
 use mathlib.Core.List.{List, []}
 use mathlib.Core.Bool.{Bool, true, false, not, _||_, _&&_}
 use lib.Dec.{eqb}
-use Rattle.scan.specs.Bytes.{if_then_else_}
 use Rattle.perms.specs.Sets.{has, setOf, perms}
 use Rattle.modes.specs.declared.Execute.{Execute}
 use Rattle.findings.specs.Findings.{Choice, None, Single, Several}
