@@ -11,6 +11,7 @@ use Rattle.scan.specs.Bytes.{begins, holds, isEmpty, same}
 use Rattle.text.specs.Reading.{Reading, Read, Refused}
 use Rattle.blanks.specs.Blanks.{nul}
 use Rattle.pattern.specs.Expansions.{Variable}
+use Rattle.pattern.specs.Faults.{patternFault}
 use Rattle.pattern.specs.Table.{bytesAt, env}
 use Rattle.matcher.specs.Walk.{pathFits}
 use Rattle.statement.specs.Steps.{rulesFrom}
@@ -61,7 +62,7 @@ found-none s t i name = refl
 
 -- the answer of the rules that were found
 abbrev pub answerOfFound : List Variable → Access → (asked : ℕ) → List ℕ → Found → Answer
-answerOfFound vs q asked s (Rules at count) = answerFrom (findings vs q (rulesFrom count vs s (at .0))) asked
+answerOfFound vs q asked s (Rules at count) = answerFrom (findings vs q (rulesFrom count (patternFault vs) s (at .0))) asked
 answerOfFound vs q asked s Nowhere = refusal 11 0
 
 pub answer-found : (vs : List Variable) (q : Access) (asked : ℕ) (s t : List ℕ) (k i : ℕ) (name : List ℕ)
@@ -71,7 +72,7 @@ answer-found vs q asked s t zero i name = refl
 answer-found vs q asked s t (suc k) i name = go (same (bytesAt s t (4 * i)) name) (answer-found vs q asked s t k (i + 1) name)
   where
     rules : Answer
-    rules = answerFrom (findings vs q (rulesFrom (getD t (4 * i + 3) 0) vs s (getD t (4 * i + 2) 0))) asked
+    rules = answerFrom (findings vs q (rulesFrom (getD t (4 * i + 3) 0) (patternFault vs) s (getD t (4 * i + 2) 0))) asked
 
     go : (b : Bool) → answerIn vs q asked name (profilesFrom vs s t k (i + 1)) ≡ answerOfFound vs q asked s (foundFrom s t k (i + 1) name) →
         (elim b as (λ _. Answer) [ true ↦ rules | false ↦ answerIn vs q asked name (profilesFrom vs s t k (i + 1)) ])

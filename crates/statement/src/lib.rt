@@ -13,11 +13,11 @@ use text::Stop;
 use tokens::Token;
 ghost use mathlib.Core.Path.{_≡_};
 ghost use Rattle.tokens.specs.Places.{tokenOf};
+ghost use Rattle.pattern.specs.Faults.{patternFault};
 ghost use Rattle.pattern.specs.Table.{env};
 ghost use Rattle.sizes.specs.Sizes.{Known};
-ghost use Rattle.rule.specs.Rules.{ruleFrom};
+ghost use Rattle.rule.specs.Rules.{ruleAt, ruleEnd, ruleFrom};
 ghost use Rattle.rule.specs.Places.{seenQualifiers};
-ghost use Rattle.statement.specs.Steps.{ruleAt, ruleEnd};
 ghost use Rattle.statement.specs.Places.{profileIn, profileOf, seenRule, seenStep};
 
 // A rule and where reading goes on, or the refusal.
@@ -74,7 +74,7 @@ fn rule_from(
     q: Qualifiers,
     token: Token,
 ) -> RuleRead
-    ensures { λ r. ⌜ (Known (now (text .entry)) (now (vars .entry)) n (now (sizes .entry)) → seenRule (now (text .entry)) r ≡ ruleFrom (env (now (text .entry)) (now (vars .entry)) n) (now (text .entry)) (seenQualifiers q) (tokenOf (now (text .entry)) token)) ⌝ }
+    ensures { λ r. ⌜ (Known (now (text .entry)) (now (vars .entry)) n (now (sizes .entry)) → seenRule (now (text .entry)) r ≡ ruleFrom (patternFault (env (now (text .entry)) (now (vars .entry)) n)) (now (text .entry)) (seenQualifiers q) (tokenOf (now (text .entry)) token)) ⌝ }
     ensures profile { λ r. ⌜ profileOf profile r ≡ profile ⌝ }
 {
     let from = token.from.0;
@@ -114,7 +114,7 @@ fn rule_here(
     profile: usize,
     at: Place,
 ) -> Step
-    ensures { λ r. ⌜ (Known (now (text .entry)) (now (vars .entry)) n (now (sizes .entry)) → seenStep (now (text .entry)) r ≡ ruleAt (env (now (text .entry)) (now (vars .entry)) n) (now (text .entry)) (at .0)) ⌝ }
+    ensures { λ r. ⌜ (Known (now (text .entry)) (now (vars .entry)) n (now (sizes .entry)) → seenStep (now (text .entry)) r ≡ ruleAt (patternFault (env (now (text .entry)) (now (vars .entry)) n)) (now (text .entry)) (at .0)) ⌝ }
     ensures profile { λ r. ⌜ profileIn profile r ≡ profile ⌝ }
 {
     if blanks::stands_at(text, at, b"}") {
@@ -141,7 +141,7 @@ pub fn rule_at(
     profile: usize,
     at: Place,
 ) -> Step
-    ensures { λ r. ⌜ (Known (now (text .entry)) (now (vars .entry)) n (now (sizes .entry)) → seenStep (now (text .entry)) r ≡ ruleAt (env (now (text .entry)) (now (vars .entry)) n) (now (text .entry)) (at .0)) ⌝ }
+    ensures { λ r. ⌜ (Known (now (text .entry)) (now (vars .entry)) n (now (sizes .entry)) → seenStep (now (text .entry)) r ≡ ruleAt (patternFault (env (now (text .entry)) (now (vars .entry)) n)) (now (text .entry)) (at .0)) ⌝ }
     ensures profile { λ r. ⌜ profileIn profile r ≡ profile ⌝ }
 {
     let place = blanks::standing_at(text, at);

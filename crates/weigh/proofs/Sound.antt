@@ -21,9 +21,9 @@ use Rattle.tokens.specs.Tokens.{Token, comma, isWord, tokenAt, wanted}
 use Rattle.blanks.specs.Blanks.{standing, standsAt}
 use Rattle.pattern.specs.Expansions.{Variable}
 use Rattle.pattern.specs.Faults.{patternFault}
-use Rattle.rule.specs.Rules.{Rule, RuleRead, Qualifiers, patternAt, qualifiersAt, ruleFrom}
+use Rattle.rule.specs.Rules.{Rule, RuleRead, Qualifiers, Step, More, Close, bodyAt, patternAt, qualifiersAt, ruleAt, ruleEnd, ruleFrom}
 use Rattle.rule_tail.specs.Tails.{Permissions, Target, carriedBy, commaAt, permsAt, targetAt}
-use Rattle.statement.specs.Steps.{Step, More, Close, ruleAt, ruleThen, rulesFrom}
+use Rattle.statement.specs.Steps.{ruleThen, rulesFrom}
 
 -- the pattern has no fault, the permissions are some of the seven
 pub record Sound (vs : List Variable) (r : Rule) : Type 0 where
@@ -113,11 +113,11 @@ module _ (vs : List Variable) (s : List ℕ) where
   abbrev SoundRule : RuleRead → Type 0
   SoundRule r = Sound vs (r .rule)
 
-  from-sound : (q : Qualifiers) (t : Token) → Holds SoundRule (ruleFrom vs s q t)
-  unfolding ruleFrom
+  from-sound : (q : Qualifiers) (t : Token) → Holds SoundRule (ruleFrom (patternFault vs) s q t)
+  unfolding ruleFrom ruleEnd
   from-sound q t =
-      judged-then SoundRule (patternFault vs (t .content)) (t .start) (permsAt (q .deny) s (t .next) >>= after-perms) λ good.
-      read-then SoundRule Few (permsAt (q .deny) s (t .next)) after-perms (perms-few (q .deny) s (t .next)) λ p few.
+      judged-then SoundRule (patternFault vs (t .content)) (t .start) (permsAt (q .deny) s (t .next) >>= ruleEnd s q t) λ good.
+      read-then SoundRule Few (permsAt (q .deny) s (t .next)) (ruleEnd s q t) (perms-few (q .deny) s (t .next)) λ p few.
       any-then SoundRule (targetAt (p .transition) s (p .next)) (after-target p) λ to.
       any-then SoundRule (commaAt s (to .next)) (whole p to) λ n. record { good = good; below = few }
     where
@@ -131,36 +131,33 @@ module _ (vs : List Variable) (s : List ℕ) where
       after-target : Permissions → Target → Reading RuleRead
       after-target p to = commaAt s (to .next) >>= whole p to
 
-      after-perms : Permissions → Reading RuleRead
-      after-perms p = targetAt (p .transition) s (p .next) >>= after-target p
-
   abbrev SoundStep : Step → Type 0
   SoundStep (More r) = SoundRule r
   SoundStep (Close n) = Unit {0}
 
-  step-sound : (at : ℕ) → Holds SoundStep (ruleAt vs s at)
-  unfolding ruleAt
+  step-sound : (at : ℕ) → Holds SoundStep (ruleAt (patternFault vs) s at)
+  unfolding ruleAt bodyAt
   step-sound at = go (standsAt (bytes "}") s at)
     where
       from : Token → Reading Step
-      from t = ruleFrom vs s (qualifiersAt s at) t >>= λ r. Read (More r)
+      from t = ruleFrom (patternFault vs) s (qualifiersAt s at) t >>= λ r. Read (More r)
 
       go : (b : Bool) → Holds SoundStep (elim b as (λ _. Reading Step) [ true ↦ Read (Close (standing s at + 1)) | false ↦ patternAt s (qualifiersAt s at) >>= from ])
       go true = tt
       go false =
           any-then SoundStep (patternAt s (qualifiersAt s at)) from λ t.
-          read-then SoundStep SoundRule (ruleFrom vs s (qualifiersAt s at) t) (λ r. Read (More r)) (from-sound (qualifiersAt s at) t) λ r h. h
+          read-then SoundStep SoundRule (ruleFrom (patternFault vs) s (qualifiersAt s at) t) (λ r. Read (More r)) (from-sound (qualifiersAt s at) t) λ r h. h
 
   -- a rule that was read is sound
-  pub rule-sound : (at : ℕ) (r : RuleRead) → ruleAt vs s at ≡ Read (More r) → Sound vs (r .rule)
+  pub rule-sound : (at : ℕ) (r : RuleRead) → ruleAt (patternFault vs) s at ≡ Read (More r) → Sound vs (r .rule)
   rule-sound at r e = subst (Holds SoundStep) e (step-sound at)
 
-  pub rules-sound : (k at : ℕ) → All (Sound vs) (rulesFrom k vs s at)
+  pub rules-sound : (k at : ℕ) → All (Sound vs) (rulesFrom k (patternFault vs) s at)
   unfolding rulesFrom
   rules-sound zero at = tt
-  rules-sound (suc k) at = go (ruleAt vs s at) (step-sound at) (λ n. rules-sound k n)
+  rules-sound (suc k) at = go (ruleAt (patternFault vs) s at) (step-sound at) (λ n. rules-sound k n)
     where
-      go : (x : Reading Step) → Holds SoundStep x → ((n : ℕ) → All (Sound vs) (rulesFrom k vs s n)) → All (Sound vs) (ruleThen (λ r. rulesFrom k vs s (r .next)) x)
+      go : (x : Reading Step) → Holds SoundStep x → ((n : ℕ) → All (Sound vs) (rulesFrom k (patternFault vs) s n)) → All (Sound vs) (ruleThen (λ r. rulesFrom k (patternFault vs) s (r .next)) x)
       go (Read (More r)) h more = (h, more (r .next))
       go (Read (Close n)) h more = tt
       go (Refused n p) h more = tt

@@ -3,6 +3,7 @@ use denote.Ref.{now}
 use native.Mathlib.Omega.{arith}
 use Prim.Native.Nat.{suc, _+_, _≤_, _-_}
 use mathlib.Core.Path.{_≡_, sym, _∙_}
+use Rattle.pattern.specs.Faults.{patternFault}
 use Rattle.pattern.specs.Table.{env}
 use Rattle.sizes.specs.Sizes.{Known}
 use Rattle.rule.specs.Rules.{rulesAt}
@@ -15,7 +16,7 @@ use Rattle.body.proofs.rules_at.Tie as tie
 abbrev Inv-loop : tie.InvT-loop
 Inv-loop text vars n sizes left place₀ count₀ place count =
     (count ≤ left)
-    × (Known text vars n sizes → countedFrom count (rulesAt (left - count) (env text vars n) text (place .0)) ≡ counted (rulesAt left (env text vars n) text (place₀ .0)))
+    × (Known text vars n sizes → countedFrom count (rulesAt (left - count) (patternFault (env text vars n)) text (place .0)) ≡ counted (rulesAt left (patternFault (env text vars n)) text (place₀ .0)))
 
 abbrev μ-loop : tie.MeasureT-loop
 μ-loop text vars n sizes left place₀ count₀ place count = left - count
@@ -39,9 +40,9 @@ loop-again : tie.Need-loop-again Inv-loop μ-loop
 loop-again c =
     let l = (c .before .before .before .before .before .loop) in
     let a = (c .before .before .before .before .before .before .before .args) in
-    let vs = env (now (a .text)) (now (a .vars)) (a .n) in
+    let f = patternFault (env (now (a .text)) (now (a .vars)) (a .n)) in
     let e : a .left - l .count ≡ suc (a .left - (l .count + 1)) = omega arith in
-    (omega arith, λ k. sym (count-more vs (now (a .text)) (l .place .0) (l .count) (a .left - (l .count + 1)) (c .before .before .before .rule-at .ensures .0 k) (c .before .r .given .1)) ∙ (rw e at (l .inv .1 k)))
+    (omega arith, λ k. sym (count-more f (now (a .text)) (l .place .0) (l .count) (a .left - (l .count + 1)) (c .before .before .before .rule-at .ensures .0 k) (c .before .r .given .1)) ∙ (rw e at (l .inv .1 k)))
 
 enum-known-r-2 : tie.Need-enum-known-r-2 Inv-loop μ-loop
 enum-known-r-2 c = search needs
@@ -51,9 +52,9 @@ unfolding seenRules
 returns c =
     let l = (c .before .before .before .before .before .loop) in
     let a = (c .before .before .before .before .before .before .before .args) in
-    let vs = env (now (a .text)) (now (a .vars)) (a .n) in
+    let f = patternFault (env (now (a .text)) (now (a .vars)) (a .n)) in
     let e : a .left - l .count ≡ suc (a .left - (l .count + 1)) = omega arith in
-    λ k. sym (count-close vs (now (a .text)) (l .place .0) (l .count) (a .left - (l .count + 1)) (c .before .before .before .rule-at .ensures .0 k) (c .before .r2 .given .1)) ∙ (rw e at (l .inv .1 k))
+    λ k. sym (count-close f (now (a .text)) (l .place .0) (l .count) (a .left - (l .count + 1)) (c .before .before .before .rule-at .ensures .0 k) (c .before .r2 .given .1)) ∙ (rw e at (l .inv .1 k))
 
 enum-known-r-3 : tie.Need-enum-known-r-3 Inv-loop μ-loop
 enum-known-r-3 c = search needs
@@ -63,9 +64,9 @@ unfolding seenRules
 returns-2 c =
     let l = (c .before .before .before .before .before .loop) in
     let a = (c .before .before .before .before .before .before .before .args) in
-    let vs = env (now (a .text)) (now (a .vars)) (a .n) in
+    let f = patternFault (env (now (a .text)) (now (a .vars)) (a .n)) in
     let e : a .left - l .count ≡ suc (a .left - (l .count + 1)) = omega arith in
-    λ k. sym (count-refused vs (now (a .text)) (l .place .0) (l .count) (a .left - (l .count + 1)) (c .before .before .before .rule-at .ensures .0 k) (c .before .r3 .given .1)) ∙ (rw e at (l .inv .1 k))
+    λ k. sym (count-refused f (now (a .text)) (l .place .0) (l .count) (a .left - (l .count + 1)) (c .before .before .before .rule-at .ensures .0 k) (c .before .r3 .given .1)) ∙ (rw e at (l .inv .1 k))
 
 rules-end-requires : tie.Need-rules-end-requires Inv-loop μ-loop
 rules-end-requires c κs = search needs
@@ -74,9 +75,9 @@ returns-3 : tie.Need-returns-3 Inv-loop μ-loop
 returns-3 c =
     let l = (c .before .before .loop) in
     let a = (c .before .before .before .before .args) in
-    let vs = env (now (a .text)) (now (a .vars)) (a .n) in
+    let f = patternFault (env (now (a .text)) (now (a .vars)) (a .n)) in
     let e : a .left - l .count ≡ 0 = omega arith in
-    λ k. c .rules-end .ensures ∙ sym (count-end vs (now (a .text)) (l .place .0) (l .count)) ∙ (rw e at (l .inv .1 k))
+    λ k. c .rules-end .ensures ∙ sym (count-end f (now (a .text)) (l .place .0) (l .count)) ∙ (rw e at (l .inv .1 k))
 
 pub rules-at-spec : {M : Type 1} → statement M
 rules-at-spec =
