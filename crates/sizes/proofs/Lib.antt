@@ -2,4 +2,5 @@ pub mod Across
 pub mod Choices
 pub mod Laws
 pub mod Loops
+pub mod Numbered
 pub mod Table
