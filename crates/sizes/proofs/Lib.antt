@@ -3,4 +3,5 @@ pub mod Choices
 pub mod Laws
 pub mod Loops
 pub mod Numbered
+pub mod Steps
 pub mod Table
