@@ -1,4 +1,5 @@
 pub mod Across
+pub mod Algebra
 pub mod Choices
 pub mod Laws
 pub mod Loops
