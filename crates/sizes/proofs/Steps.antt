@@ -4,12 +4,12 @@ use Prim.Native.Char.{code}
 use mathlib.Core.Path.{_≡_, refl, ap, _∙_}
 use mathlib.Core.List.{List, [], _∷_}
 use mathlib.Core.Bool.{Bool, true, false}
-use lib.ListN.{length, getD, drop}
+use lib.ListN.{length, getD, take, drop}
 use native.Mathlib.Omega.{arith}
 use Rattle.scan.specs.Bytes.{same, span}
 use Rattle.scan.proofs.Laws.{span-span}
 use Rattle.pattern.specs.Pieces.{Part, parts}
-use Rattle.pattern.specs.Items.{Item, items, before, alternatives}
+use Rattle.pattern.specs.Items.{Item, items, before, afterComma, alternatives}
 use Rattle.pattern.specs.Places.{partAt, partEnd, itemAt, itemEnd}
 use Rattle.pattern.specs.Expansions.{Choices, ofPart, ofParts, oneOf, ofItem, ofItems}
 use Rattle.pattern.specs.Table.{bytesAt, valuesFrom, valuesOf, numberOf}
@@ -68,6 +68,13 @@ module _ {A : Type 0} (D : Choices A) (f : List ℕ → A) where
       (at : j ≡ i + before (code ",") 0 (drop i s)) (b : j ≤ length s) where
     same-span : span s i j ≡ span text (a + i) (a + j)
     same-span = rw w (span-span text a e i j (rw w at b))
+
+    pub alternative-first : oneOf D f (alternatives (drop i s)) ≡
+        D .either (ofParts D f (parts 0 (span text (a + i) (a + j)))) (oneOf D f (afterComma (before (code ",") 0 (drop i s)) (drop i s)))
+    unfolding oneOf
+    alternative-first =
+        let x : before (code ",") 0 (drop i s) ≡ j - i = omega arith in
+        ap (λ (l : List ℕ). D .either (ofParts D f (parts 0 l)) (oneOf D f (afterComma (before (code ",") 0 (drop i s)) (drop i s)))) (ap (λ (k : ℕ). take k (drop i s)) x ∙ same-span)
 
     pub alternative-next : j < length s →
         oneOf D f (alternatives (drop i s)) ≡
