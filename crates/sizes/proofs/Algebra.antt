@@ -8,7 +8,7 @@ use native.Mathlib.Nat.{mul-zero, zero-mul, mul-one, one-mul, mul-assoc}
 use native.Mathlib.Omega.{arith}
 use Rattle.scan.specs.Bytes.{if_then_else_}
 use Rattle.sizes.specs.declared.Size.{Size}
-use Rattle.sizes.specs.Sizes.{limitOf, timesOf, plusOf, noSize, nilSize}
+use Rattle.sizes.specs.Sizes.{timesOf, plusOf, noSize, nilSize}
 use Rattle.sizes.proofs.Laws.{size-eq, min-twice, sat-mul, le-mul, and-assoc, or-assoc}
 
 and-true : (a : Bool) → a && true ≡ a

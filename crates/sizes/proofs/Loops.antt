@@ -1,5 +1,6 @@
 -- What a loop over parts, items, values or alternatives knows: the size of those passed, and what is left.
-use Prim.Native.Nat.{ℕ, suc, _+_, _-_, _≤_, _<_, min, max}
+use Prim.Native.Nat.{ℕ, suc, _+_, _*_, _-_, _≤_, _<_, min, max}
+use Prim.Native.Char.{code}
 use mathlib.Core.Path.{_≡_, refl, sym, ap, ap₂, _∙_}
 use mathlib.Core.List.{List, [], _∷_, _++_, map}
 use mathlib.Core.Bool.{false}
@@ -10,8 +11,10 @@ use native.Mathlib.Omega.{arith}
 use Rattle.scan.specs.Bytes.{run, span}
 use Rattle.scan.proofs.Laws.{length-span}
 use Rattle.pattern.specs.Pieces.{Piece, Byte, Part, parts}
-use Rattle.pattern.specs.Items.{Item, items}
+use Rattle.pattern.specs.Items.{Item, items, before, alternatives}
+use Rattle.pattern.specs.Places.{partAt, partEnd, itemAt, itemEnd}
 use Rattle.pattern.specs.Expansions.{across, ofPart, ofParts, oneOf, ofItem, ofItems}
+use Rattle.pattern.specs.Table.{bytesAt, valuesFrom, valuesOf}
 use Rattle.pattern.specs.Literals.{ordinary}
 use Rattle.pattern.proofs.Literals.{literalPart, literalItem, parts-run, items-run}
 use Rattle.sizes.specs.declared.Size.{Size}
@@ -20,6 +23,7 @@ use Rattle.sizes.specs.Numbered.{Numbered, numbering, pieceSize}
 use Rattle.sizes.proofs.Across.{across-one}
 use Rattle.sizes.proofs.Laws.{size-across, size-eq, size-nil, size-one, size-piece}
 use Rattle.sizes.proofs.Algebra.{times-assoc, times-cut, nil-times, plus-assoc, plus-cut, none-plus}
+use Rattle.sizes.proofs.Steps.{parts-next, parts-last, items-next, items-last, values-next, values-last, values-whole, alternative-next, alternative-end}
 
 -- ---- neighbours: the size of the whole is that of those passed and of the rest; what is passed is cut to its bounds
 
@@ -30,11 +34,11 @@ pub record Passed (size rest whole : Size) : Type 0 where
 sized-cut : (xs : List (List Piece)) → timesOf (sizeOf xs) nilSize ≡ sizeOf xs
 sized-cut xs = ap (timesOf (sizeOf xs)) (sym size-nil) ∙ size-across xs ([] ∷ []) ∙ ap sizeOf (across-one xs)
 
-pub passed-first : {size rest whole : Size} (xs : List (List Piece)) → size ≡ sizeOf xs → whole ≡ timesOf (sizeOf xs) rest → Passed size rest whole
+passed-first : {size rest whole : Size} (xs : List (List Piece)) → size ≡ sizeOf xs → whole ≡ timesOf (sizeOf xs) rest → Passed size rest whole
 passed-first xs e w = record { together = rw e (sym w); cut = rw e (sized-cut xs) }
 
 -- two neighbours more
-pub passed-two : {size x y one two both next rest mid left whole : Size} → Passed size rest whole →
+passed-two : {size x y one two both next rest mid left whole : Size} → Passed size rest whole →
     one ≡ x → two ≡ y → both ≡ timesOf one two → next ≡ timesOf size both → rest ≡ timesOf x mid → mid ≡ timesOf y left → Passed next left whole
 passed-two {size = size} {x = x} {y = y} {left = left} p o t b n r m =
     let e = n ∙ ap (timesOf size) (b ∙ ap₂ timesOf o t) in
@@ -46,7 +50,7 @@ passed-two {size = size} {x = x} {y = y} {left = left} p o t b n r m =
       cut = ap (λ (z : Size). timesOf z nilSize) e ∙ times-cut size (timesOf x y) ∙ sym e;
     }
 
-pub passed-all : {size rest whole : Size} → Passed size rest whole → rest ≡ nilSize → size ≡ whole
+passed-all : {size rest whole : Size} → Passed size rest whole → rest ≡ nilSize → size ≡ whole
 passed-all {size = size} p e = sym (p .cut) ∙ ap (timesOf size) (sym e) ∙ p .together
 
 -- ---- choices of several kinds: the size of the whole is that of those passed and of the rest
@@ -55,11 +59,11 @@ pub record Summed (size rest whole : Size) : Type 0 where
   pub together : plusOf size rest ≡ whole
   pub cut : plusOf size noSize ≡ size
 
-pub summed-none : {size whole : Size} → size ≡ noSize → plusOf noSize whole ≡ whole → Summed size whole whole
+summed-none : {size whole : Size} → size ≡ noSize → plusOf noSize whole ≡ whole → Summed size whole whole
 unfolding plusOf
 summed-none e w = record { together = rw e w; cut = rw e refl }
 
-pub summed-more : {size x one next rest left whole : Size} → Summed size rest whole → one ≡ x → next ≡ plusOf size one → rest ≡ plusOf x left → Summed next left whole
+summed-more : {size x one next rest left whole : Size} → Summed size rest whole → one ≡ x → next ≡ plusOf size one → rest ≡ plusOf x left → Summed next left whole
 summed-more {size = size} {x = x} {left = left} p o n r =
     let e = n ∙ ap (plusOf size) o in
     record {
@@ -67,7 +71,7 @@ summed-more {size = size} {x = x} {left = left} p o n r =
       cut = ap (λ (z : Size). plusOf z noSize) e ∙ plus-cut size x ∙ sym e;
     }
 
-pub summed-all : {size rest whole : Size} → Summed size rest whole → rest ≡ noSize → size ≡ whole
+summed-all : {size rest whole : Size} → Summed size rest whole → rest ≡ noSize → size ≡ whole
 summed-all {size = size} p e = sym (p .cut) ∙ ap (plusOf size) (sym e) ∙ p .together
 
 -- ---- literals: one expansion
@@ -107,21 +111,15 @@ module _ (f : List ℕ → Numbered) where
     left : drop (run ordinary (drop i s)) (drop i s) ≡ drop next s
     left = drop-drop (run ordinary (drop i s)) i s ∙ ap (λ (k : ℕ). drop k s) (sym n)
 
-    pub parts-literals : ofParts numbering f (parts 0 (drop i s)) .size ≡ timesOf (sizeOf (map Byte (span s i next) ∷ [])) (ofParts numbering f (parts 0 (drop next s)) .size)
+    parts-literals : ofParts numbering f (parts 0 (drop i s)) .size ≡ timesOf (sizeOf (map Byte (span s i next) ∷ [])) (ofParts numbering f (parts 0 (drop next s)) .size)
     parts-literals =
         ap (λ (l : List Part). ofParts numbering f l .size) (parts-run (drop i s)) ∙ literal-parts (take (run ordinary (drop i s)) (drop i s)) _
         ∙ ap₂ (λ (x l : List ℕ). timesOf (sizeOf (map Byte x ∷ [])) (ofParts numbering f (parts 0 l) .size)) taken left
 
-    pub items-literals : ofItems numbering f (items 0 (drop i s)) .size ≡ timesOf (sizeOf (map Byte (span s i next) ∷ [])) (ofItems numbering f (items 0 (drop next s)) .size)
+    items-literals : ofItems numbering f (items 0 (drop i s)) .size ≡ timesOf (sizeOf (map Byte (span s i next) ∷ [])) (ofItems numbering f (items 0 (drop next s)) .size)
     items-literals =
         ap (λ (l : List Item). ofItems numbering f l .size) (items-run (drop i s)) ∙ literal-items (take (run ordinary (drop i s)) (drop i s)) _
         ∙ ap₂ (λ (x l : List ℕ). timesOf (sizeOf (map Byte x ∷ [])) (ofItems numbering f (items 0 l) .size)) taken left
-
-  -- one of several is cut to its bounds
-  pub one-cut : (ss : List (List ℕ)) → plusOf noSize (oneOf numbering f ss .size) ≡ oneOf numbering f ss .size
-  unfolding oneOf plusOf
-  one-cut [] = refl
-  one-cut (s ∷ ss) = none-plus (ofParts numbering f (parts 0 s) .size) (oneOf numbering f ss .size)
 
 pub literals-none : (s : List ℕ) (at end : ℕ) → end ≤ at → sizeOf (map Byte (span s at end) ∷ []) ≡ nilSize
 literals-none s at end h = let e : end - at ≡ 0 = omega arith in rw e size-nil
@@ -135,7 +133,79 @@ literals-some s at end h k =
     ∙ size-one (Byte (getD s at 0)) (map Byte (take (end - at - 1) (drop (suc at) s)))
     ∙ size-eq refl (rw length-map (omega arith)) refl refl
 
--- ---- the alternatives of a span
+-- ---- a loop over parts or items and the literals after each
+
+sizes-eq : {a b : Numbered} → a ≡ b → a .size ≡ b .size
+sizes-eq e = ap (λ (x : Numbered). x .size) e
+
+module _ (f : List ℕ → Numbered) (s : List ℕ) where
+  abbrev pub partsFrom : ℕ → Size
+  partsFrom at = ofParts numbering f (parts 0 (drop at s)) .size
+
+  abbrev pub itemsFrom : ℕ → Size
+  itemsFrom at = ofItems numbering f (items 0 (drop at s)) .size
+
+  pub parts-first : {size : Size} (end : ℕ) → end ≡ 0 + run ordinary (drop 0 s) → size ≡ sizeOf (map Byte (span s 0 end) ∷ []) → Passed size (partsFrom end) (partsFrom 0)
+  parts-first end e z = passed-first (map Byte (span s 0 end) ∷ []) z (parts-literals f s 0 end e)
+
+  pub items-first : {size : Size} (end : ℕ) → end ≡ 0 + run ordinary (drop 0 s) → size ≡ sizeOf (map Byte (span s 0 end) ∷ []) → Passed size (itemsFrom end) (itemsFrom 0)
+  items-first end e z = passed-first (map Byte (span s 0 end) ∷ []) z (items-literals f s 0 end e)
+
+  module _ {size whole : Size} (at : ℕ) where
+    pub parts-all : Passed size (partsFrom at) whole → length s ≤ at → size ≡ whole
+    parts-all p h = passed-all p (sizes-eq (parts-last numbering f s at h))
+
+    pub items-all : Passed size (itemsFrom at) whole → length s ≤ at → size ≡ whole
+    items-all p h = passed-all p (sizes-eq (items-last numbering f s at h))
+
+    -- what stands at a place has the size one, the literals from there to the end the size two
+    module _ {one two both next : Size} (from end : ℕ) (e : end ≡ from + run ordinary (drop from s)) (l : two ≡ sizeOf (map Byte (span s from end) ∷ []))
+        (b : both ≡ timesOf one two) (n : next ≡ timesOf size both) where
+      pub parts-more : Passed size (partsFrom at) whole → at < length s → (p : Part) → p ≡ partAt s at → from ≡ partEnd s at →
+          one ≡ ofPart numbering f p .size → Passed next (partsFrom end) whole
+      parts-more q h p i g o = passed-two q o l b n (sizes-eq (parts-next numbering f s at p from h i g)) (parts-literals f s from end e)
+
+      pub items-more : Passed size (itemsFrom at) whole → at < length s → (p : Item) → p ≡ itemAt s at → from ≡ itemEnd s at →
+          one ≡ ofItem numbering f p .size → Passed next (itemsFrom end) whole
+      items-more q h p i g o = passed-two q o l b n (sizes-eq (items-next numbering f s at p from h i g)) (items-literals f s from end e)
+
+-- ---- a loop over the values of a variable or the alternatives of a span
+
+module _ (f : List ℕ → Numbered) where
+  abbrev pub oneFrom : List (List ℕ) → Size
+  oneFrom ss = oneOf numbering f ss .size
+
+  one-cut : (ss : List (List ℕ)) → plusOf noSize (oneFrom ss) ≡ oneFrom ss
+  unfolding oneOf plusOf
+  one-cut [] = refl
+  one-cut (s ∷ ss) = none-plus (ofParts numbering f (parts 0 s) .size) (oneFrom ss)
+
+  pub one-first : {size : Size} → size ≡ noSize → (ss : List (List ℕ)) → Summed size (oneFrom ss) (oneFrom ss)
+  one-first e ss = summed-none e (one-cut ss)
+
+  module _ (text vars : List ℕ) where
+    pub values-first : {size : Size} (w m : ℕ) → m ≡ min 16 (getD vars (64 + w) 0) → size ≡ noSize →
+        Summed size (oneFrom (valuesFrom text vars (m - 0) (16 * w + 0))) (oneFrom (valuesOf text vars w))
+    values-first w m k e = rw (sizes-eq (values-whole numbering f text vars w m k)) (one-first e (valuesOf text vars w))
+
+    module _ {size whole : Size} (m k i : ℕ) (p : Summed size (oneFrom (valuesFrom text vars (m - k) (i + k))) whole) where
+      pub values-more : {one next : Size} → k < m → one ≡ ofParts numbering f (parts 0 (bytesAt text vars (96 + 2 * (i + k)))) .size →
+          next ≡ plusOf size one → Summed next (oneFrom (valuesFrom text vars (m - (k + 1)) (i + (k + 1)))) whole
+      values-more h o n = summed-more p o n (sizes-eq (values-next numbering f text vars m k i h))
+
+      pub values-all : m ≤ k → size ≡ whole
+      values-all h = summed-all p (sizes-eq (values-last numbering f text vars m k i h))
+
+  -- the alternative from i to before the comma or end at j
+  module _ {size one next whole : Size} (text : List ℕ) (a e : ℕ) (s : List ℕ) (w : s ≡ span text a e) (i j : ℕ)
+      (at : j ≡ i + before (code ",") 0 (drop i s)) (b : j ≤ length s)
+      (p : Summed size (oneFrom (alternatives (drop i s))) whole)
+      (o : one ≡ ofParts numbering f (parts 0 (span text (a + i) (a + j))) .size) (n : next ≡ plusOf size one) where
+    pub alternative-more : j < length s → Summed next (oneFrom (alternatives (drop (j + 1) s))) whole
+    alternative-more h = summed-more p o n (sizes-eq (alternative-next numbering f text a e s w i j at b h))
+
+    pub alternative-all : length s ≤ j → next ≡ whole
+    alternative-all h = summed-all (summed-more p o n (sizes-eq (alternative-end numbering f text a e s w i j at b h))) refl
 
 pub span-most : (text : List ℕ) (a e i : ℕ) → i ≤ length (span text a e) → a + i ≤ max a (length text)
 span-most text a e i h = omega (arith, length-span text a e)
