@@ -51,7 +51,7 @@ module _ (vs : List Variable) (s : List ℕ) where
 -- ---- a pattern
 
 -- under a right table the fault is that of the expansions
-pub fault-known : (text vars : List ℕ) (n : ℕ) (table : List ℕ) → Known text vars n table → (s : List ℕ) →
+fault-known : (text vars : List ℕ) (n : ℕ) (table : List ℕ) → Known text vars n table → (s : List ℕ) →
     faultBy text vars n table s ≡ patternFault (env text vars n) s
 unfolding faultBy patternFault sizeFault
 fault-known text vars n table k s =
@@ -70,6 +70,9 @@ fault-known text vars n table k s =
         last true d = refl
         last false true = refl
         last false false = refl
+
+pub faults-known : {text vars : List ℕ} {n : ℕ} {table : List ℕ} → Known text vars n table → faultBy text vars n table ≡ patternFault (env text vars n)
+faults-known {text} {vars} {n} {table} k = λ i s. fault-known text vars n table k s i
 
 -- ---- as the code finds them, t being the bytes of s
 

@@ -32,7 +32,7 @@ add-t19 c =
 
 returns : tie.Need-returns
 unfolding ruleAt bodyAt seenStep bytes
-returns c = (λ k. rw (c .standing-at .ensures, ← c .before .before .stands-at .ensures, c .before .if1 .taken, bodyAt), refl)
+returns c = (rw (c .standing-at .ensures, ← c .before .before .stands-at .ensures, c .before .if1 .taken, bodyAt), refl)
 
 qualifiers-at-requires : tie.Need-qualifiers-at-requires
 qualifiers-at-requires c κs = search needs
@@ -57,15 +57,15 @@ enum-known-rule c = search needs
 
 returns-2 : tie.Need-returns-2
 unfolding ruleAt bodyAt seenGot seenStep bytes
-returns-2 c = (λ k. rw (← c .before .before .before .before .before .before .stands-at .ensures, c .before .before .before .before .before .if1 .left, ← c .before .before .before .before .qualifiers-at .ensures .is, ← pattern-from _ (seenQualifiers (c .before .before .before .before .qualifiers-at .result)) (c .before .before .before .before .qualifiers-at .ensures .token), ← c .before .before .before .pattern-at .ensures, c .before .stop .given .1, seenGot, bodyAt), refl)
+returns-2 c = (rw (← c .before .before .before .before .before .before .stands-at .ensures, c .before .before .before .before .before .if1 .left, ← c .before .before .before .before .qualifiers-at .ensures .is, ← pattern-from _ (seenQualifiers (c .before .before .before .before .qualifiers-at .result)) (c .before .before .before .before .qualifiers-at .ensures .token), ← c .before .before .before .pattern-at .ensures, c .before .stop .given .1, seenGot, bodyAt), refl)
 
 returns-3 : tie.Need-returns-3
 unfolding ruleAt bodyAt seenGot seenRule seenStep bytes
-returns-3 c = (λ k. rw (← c .before .before .before .before .before .before .before .before .before .before .stands-at .ensures, c .before .before .before .before .before .before .before .before .before .if1 .left, ← c .before .before .before .before .before .before .before .before .qualifiers-at .ensures .is, ← pattern-from _ (seenQualifiers (c .before .before .before .before .before .before .before .before .qualifiers-at .result)) (c .before .before .before .before .before .before .before .before .qualifiers-at .ensures .token), ← c .before .before .before .before .before .before .before .pattern-at .ensures, c .before .before .before .before .before .t .given .1, seenGot, ← c .before .before .before .rule-from .ensures .0 k, c .before .stop2 .given .1, seenRule, bodyAt), refl)
+returns-3 c = (rw (← c .before .before .before .before .before .before .before .before .before .before .stands-at .ensures, c .before .before .before .before .before .before .before .before .before .if1 .left, ← c .before .before .before .before .before .before .before .before .qualifiers-at .ensures .is, ← pattern-from _ (seenQualifiers (c .before .before .before .before .before .before .before .before .qualifiers-at .result)) (c .before .before .before .before .before .before .before .before .qualifiers-at .ensures .token), ← c .before .before .before .before .before .before .before .pattern-at .ensures, c .before .before .before .before .before .t .given .1, seenGot, ← c .before .before .before .rule-from .ensures .0, c .before .stop2 .given .1, seenRule, bodyAt), refl)
 
 returns-4 : tie.Need-returns-4
 unfolding ruleAt bodyAt seenGot seenRule seenStep bytes
-returns-4 c = (λ k. rw (← c .before .before .before .before .before .before .before .before .before .before .stands-at .ensures, c .before .before .before .before .before .before .before .before .before .if1 .left, ← c .before .before .before .before .before .before .before .before .qualifiers-at .ensures .is, ← pattern-from _ (seenQualifiers (c .before .before .before .before .before .before .before .before .qualifiers-at .result)) (c .before .before .before .before .before .before .before .before .qualifiers-at .ensures .token), ← c .before .before .before .before .before .before .before .pattern-at .ensures, c .before .before .before .before .before .t .given .1, seenGot, ← c .before .before .before .rule-from .ensures .0 k, c .before .rule .given .1, seenRule, bodyAt), rw (c .before .rule .given .1) at (c .before .before .before .rule-from .ensures .1))
+returns-4 c = (rw (← c .before .before .before .before .before .before .before .before .before .before .stands-at .ensures, c .before .before .before .before .before .before .before .before .before .if1 .left, ← c .before .before .before .before .before .before .before .before .qualifiers-at .ensures .is, ← pattern-from _ (seenQualifiers (c .before .before .before .before .before .before .before .before .qualifiers-at .result)) (c .before .before .before .before .before .before .before .before .qualifiers-at .ensures .token), ← c .before .before .before .before .before .before .before .pattern-at .ensures, c .before .before .before .before .before .t .given .1, seenGot, ← c .before .before .before .rule-from .ensures .0, c .before .rule .given .1, seenRule, bodyAt), rw (c .before .rule .given .1) at (c .before .before .before .rule-from .ensures .1))
 
 pub rule-here-spec : {M : Type 1} → statement M
 rule-here-spec =

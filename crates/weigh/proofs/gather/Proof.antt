@@ -6,7 +6,9 @@ use mathlib.Core.Path.{_≡_, sym, _∙_}
 use Rattle.pattern.specs.Faults.{patternFault}
 use Rattle.pattern.specs.Table.{env}
 use Rattle.sizes.specs.Sizes.{Known}
+use Rattle.rule.specs.Rules.{ruleAt}
 use Rattle.statement.specs.Steps.{rulesFrom}
+use Rattle.faults.proofs.Laws.{faults-known}
 use Rattle.findings.specs.Weighed.{nothing, seenFindings}
 use Rattle.weigh.specs.Weigh.{Fits}
 use Rattle.weigh.proofs.Laws.{gathered, gathered-rules, gather-more, gather-close, gather-refused, gather-end, read-good}
@@ -53,8 +55,8 @@ loop-again c =
     let w = seenFindings s (l .found) in
     let e : a .count - l .i ≡ suc (a .count - (l .i + 1)) = omega arith in (
       omega arith,
-      rw (c .weigh .ensures (k .0) (k .1) (read-good vs s (l .place .0) (c .before .before .before .before .rule-at .ensures .0 (k .0)) (c .before .before .r .given .1)))
-          (sym (gather-more vs s (now (a .path)) (a .owner) (l .place .0) w (a .count - (l .i + 1)) (c .before .before .before .before .rule-at .ensures .0 (k .0)) (c .before .before .r .given .1))
+      rw (c .weigh .ensures (k .0) (k .1) (read-good vs s (l .place .0) (c .before .before .before .before .rule-at .ensures .0 ∙ ap (λ (f : List ℕ → ℕ). ruleAt f s (l .place .0)) (faults-known (k .0))) (c .before .before .r .given .1)))
+          (sym (gather-more vs s (now (a .path)) (a .owner) (l .place .0) w (a .count - (l .i + 1)) (c .before .before .before .before .rule-at .ensures .0 ∙ ap (λ (f : List ℕ → ℕ). ruleAt f s (l .place .0)) (faults-known (k .0))) (c .before .before .r .given .1))
           ∙ (rw e at (l .inv .1))),
     )
 
@@ -70,7 +72,7 @@ returns c =
     let vs = env s (now (a .vars)) (a .n) in
     let w = seenFindings s (l .found) in
     let e : a .count - l .i ≡ suc (a .count - (l .i + 1)) = omega arith in
-    sym (gather-close vs s (now (a .path)) (a .owner) (l .place .0) w (a .count - (l .i + 1)) (c .before .before .rule-at .ensures .0 (k .0)) (c .enum-told .given .1))
+    sym (gather-close vs s (now (a .path)) (a .owner) (l .place .0) w (a .count - (l .i + 1)) (c .before .before .rule-at .ensures .0 ∙ ap (λ (f : List ℕ → ℕ). ruleAt f s (l .place .0)) (faults-known (k .0))) (c .enum-told .given .1))
     ∙ (rw e at (l .inv .1))
     ∙ gathered-rules s vs (record { path = now (a .path); owner = a .owner }) (k .1) (a .count) (a .at .0)
 
@@ -86,7 +88,7 @@ returns-2 c =
     let vs = env s (now (a .vars)) (a .n) in
     let w = seenFindings s (l .found) in
     let e : a .count - l .i ≡ suc (a .count - (l .i + 1)) = omega arith in
-    sym (gather-refused vs s (now (a .path)) (a .owner) (l .place .0) w (a .count - (l .i + 1)) (c .before .before .rule-at .ensures .0 (k .0)) (c .enum-told2 .given .1))
+    sym (gather-refused vs s (now (a .path)) (a .owner) (l .place .0) w (a .count - (l .i + 1)) (c .before .before .rule-at .ensures .0 ∙ ap (λ (f : List ℕ → ℕ). ruleAt f s (l .place .0)) (faults-known (k .0))) (c .enum-told2 .given .1))
     ∙ (rw e at (l .inv .1))
     ∙ gathered-rules s vs (record { path = now (a .path); owner = a .owner }) (k .1) (a .count) (a .at .0)
 
