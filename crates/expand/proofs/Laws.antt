@@ -1,5 +1,5 @@
 -- An expansion written piece by piece, and one chosen by its number.
-use Prim.Native.Nat.{ℕ, zero, suc, _+_, _-_, _≤_, _<_, min}
+use Prim.Native.Nat.{ℕ, zero, suc, _+_, _*_, _-_, _≤_, _<_, min}
 use Prim.Native.Char.{code}
 use mathlib.Core.Path.{_≡_, refl, sym, ap, _∙_}
 use mathlib.Core.List.{List, [], _∷_, _++_, map, append-assoc, append-nil}
@@ -12,19 +12,19 @@ use native.Mathlib.Numerals.{add-one}
 use native.Mathlib.Omega.{arith}
 use Rattle.scan.specs.Bytes.{span, if_then_else_}
 use Rattle.pattern.specs.Pieces.{Piece, Part, part, parts}
-use Rattle.pattern.specs.Items.{Single, Among, item, isClosed, alternatives, body}
+use Rattle.pattern.specs.Items.{Single, Among, before, item, isClosed, alternatives, body}
 use Rattle.pattern.specs.Places.{partAt, partOf, itemAt, itemOf}
 use Rattle.pattern.specs.Codes.{decode}
-use Rattle.pattern.specs.Expansions.{ofParts}
+use Rattle.pattern.specs.Expansions.{ofParts, oneOf}
 use Rattle.pattern.specs.Reads.{seenPart, seenItem}
-use Rattle.pattern.specs.Table.{numberOf, valuesOf}
+use Rattle.pattern.specs.Table.{bytesAt, valuesFrom, valuesOf, numberOf}
 use Rattle.pattern.specs.declared.ItemRead.{ItemRead}
 use Rattle.pattern.specs.declared.PartRead.{PartRead}
 use Rattle.pattern.specs.declared.PartRead.the-variants.{Use}
 use Rattle.pattern.proofs.Laws.{number-le}
 use Rattle.sizes.specs.declared.Size.{Size}
-use Rattle.sizes.specs.Numbered.{Numbered, numbering, lowOf, highOf, partBy, valueBy, oneBy}
-use Rattle.sizes.proofs.Steps.{byNumber, name-number}
+use Rattle.sizes.specs.Numbered.{Numbered, numbering, lowOf, highOf, partBy, oneBy}
+use Rattle.sizes.proofs.Steps.{values-next, values-last, alternative-first, alternative-next, alternative-end, byNumber, name-number}
 use Rattle.expand.specs.Write.{textFits, Wrote, Written}
 
 -- ---- the buffer
@@ -119,17 +119,39 @@ module _ {text out : List ℕ} {m : ℕ} {ends : List Piece} where
 
 -- ---- a loop that chooses: the number among what is left
 
-module _ {left : ℕ} {z : Size} (rest x later : Numbered) (e : rest ≡ numbering .either x later) (s : z ≡ x .size) where
-  pub chosen-here : left < z .count → rest .nth left ≡ x .nth left
-  chosen-here h = rw (e, ← s, lt-ltb left (z .count) h)
+module _ (f : List ℕ → Numbered) (left : ℕ) where
+  nth-eq : {a b : Numbered} → a ≡ b → a .nth left ≡ b .nth left
+  nth-eq e = ap (λ (x : Numbered). x .nth left) e
 
-  pub chosen-there : z .count ≤ left → rest .nth left ≡ later .nth (left - z .count)
-  chosen-there h = rw (e, ← s, le-ltb left (z .count) h)
+  -- what is chosen where there is none
+  nothing : (text : List ℕ) → ofParts numbering f (parts 0 (span text 0 0)) .nth 0 ≡ []
+  unfolding ofParts parts
+  nothing text = refl
 
--- where there is none, nothing is written
-pub chosen-none : (text vars : List ℕ) (n : ℕ) (table : List ℕ) → valueBy text vars n table (span text 0 0) .nth 0 ≡ []
-unfolding ofParts parts
-chosen-none text vars n table = refl
+  -- the values of a variable from value k on
+  module _ {ends : List Piece} (text vars : List ℕ) (m k i : ℕ) (p : oneOf numbering f (valuesFrom text vars (m - k) (i + k)) .nth left ≡ ends) where
+    module _ {z : Size} (h : k < m) (o : z ≡ ofParts numbering f (parts 0 (bytesAt text vars (96 + 2 * (i + k)))) .size) where
+      pub value-here : left < z .count → ofParts numbering f (parts 0 (bytesAt text vars (96 + 2 * (i + k)))) .nth left ≡ ends
+      value-here g = sym (nth-eq (values-next numbering f text vars m k i h) ∙ rw (← o, lt-ltb left (z .count) g)) ∙ p
+
+      pub value-there : z .count ≤ left → oneOf numbering f (valuesFrom text vars (m - (k + 1)) (i + (k + 1))) .nth (left - z .count) ≡ ends
+      value-there g = sym (nth-eq (values-next numbering f text vars m k i h) ∙ rw (← o, le-ltb left (z .count) g)) ∙ p
+
+    pub value-nowhere : m ≤ k → ofParts numbering f (parts 0 (span text 0 0)) .nth 0 ≡ ends
+    value-nowhere h = nothing text ∙ sym (nth-eq (values-last numbering f text vars m k i h)) ∙ p
+
+  -- the alternatives from i on, the first of them to before the comma or end at j
+  module _ {ends : List Piece} (text : List ℕ) (a e : ℕ) (s : List ℕ) (w : s ≡ span text a e) (i j : ℕ)
+      (at : j ≡ i + before (code ",") 0 (drop i s)) (b : j ≤ length s) (p : oneOf numbering f (alternatives (drop i s)) .nth left ≡ ends)
+      {z : Size} (o : z ≡ ofParts numbering f (parts 0 (span text (a + i) (a + j))) .size) where
+    pub alternative-here : left < z .count → ofParts numbering f (parts 0 (span text (a + i) (a + j))) .nth left ≡ ends
+    alternative-here g = sym (nth-eq (alternative-first numbering f text a e s w i j at b) ∙ rw (← o, lt-ltb left (z .count) g)) ∙ p
+
+    pub alternative-there : j < length s → z .count ≤ left → oneOf numbering f (alternatives (drop (j + 1) s)) .nth (left - z .count) ≡ ends
+    alternative-there h g = sym (nth-eq (alternative-next numbering f text a e s w i j at b h) ∙ rw (← o, le-ltb left (z .count) g)) ∙ p
+
+    pub alternative-nowhere : length s ≤ j → z .count ≤ left → ofParts numbering f (parts 0 (span text 0 0)) .nth 0 ≡ ends
+    alternative-nowhere h g = nothing text ∙ sym (nth-eq (alternative-end numbering f text a e s w i j at b h) ∙ rw (← o, le-ltb left (z .count) g)) ∙ p
 
 -- ---- a variable that is used, by its number
 

@@ -1,17 +1,15 @@
 use borrow.Author.Needs.{needs}
 use native.Mathlib.Omega.{arith}
 use denote.Ref.{now}
-use mathlib.Core.Path.{_≡_, sym, _∙_}
-use Prim.Native.Char.{code}
-use Prim.Native.Nat.{_+_, _-_, _≤_, min}
+use mathlib.Core.Path.{_≡_}
+use Prim.Native.Nat.{_-_, _≤_, min}
 use lib.ListN.{length, drop}
 use Rattle.scan.specs.Bytes.{span}
-use Rattle.pattern.specs.Items.{before, afterComma, alternatives}
+use Rattle.pattern.specs.Items.{alternatives}
 use Rattle.pattern.proofs.Laws.{seek-le}
-use Rattle.sizes.specs.Numbered.{numbering, nameBy, valueBy, oneBy}
+use Rattle.sizes.specs.Numbered.{nameBy, oneBy}
 use Rattle.sizes.proofs.Loops.{span-most}
-use Rattle.sizes.proofs.Steps.{alternative-first, alternative-next, alternative-end}
-use Rattle.expand.proofs.Laws.{chosen-here, chosen-there, chosen-none}
+use Rattle.expand.proofs.Laws.{alternative-here, alternative-there, alternative-nowhere}
 use Rattle.expand.proofs.pick_alternative.Statement.{statement}
 use Rattle.expand.proofs.pick_alternative.Tie as tie
 
@@ -53,16 +51,10 @@ returns c =
     let c-loop = c .before .before .before .loop in
     let c-span = c .before .before .before .before .span in
     let c-args = c .before .before .before .before .before .before .args in
-    let text = now (c-args .text) in
-    let vars = now (c-args .vars) in
-    let table = now (c-args .sizes) in
     let s = now (c-span .result) in
-    let names = nameBy text vars table (min 32 (c-args .n)) in
-    let one = valueBy text vars (c-args .n) table (span text (c-args .a + c-loop .i) (c-args .a + c-seek .result)) in
+    let names = nameBy (now (c-args .text)) (now (c-args .vars)) (now (c-args .sizes)) (min 32 (c-args .n)) in
     let j : c-seek .result ≤ length s = omega (arith, c-seek .ensures, seek-le 44 s (c-loop .i) (c-loop .inv .0)) in
-    let later = oneBy text vars (c-args .n) table (afterComma (before (code ",") 0 (drop (c-loop .i) s)) (drop (c-loop .i) s)) in
-    let e = alternative-first numbering names text (c-args .a) (c-args .e) s (c-span .ensures) (c-loop .i) (c-seek .result) (c-seek .ensures) j in
-    sym (chosen-here _ one later e (c .before .value-size .ensures) (c .if1 .taken)) ∙ c-loop .inv .1
+    alternative-here names (c-loop .left) (now (c-args .text)) (c-args .a) (c-args .e) s (c-span .ensures) (c-loop .i) (c-seek .result) (c-seek .ensures) j (c-loop .inv .1) (c .before .value-size .ensures) (c .if1 .taken)
 
 returns-2 : tie.Need-returns-2 Inv-loop μ-loop
 returns-2 c =
@@ -70,16 +62,10 @@ returns-2 c =
     let c-loop = c .before .before .before .before .loop in
     let c-span = c .before .before .before .before .before .span in
     let c-args = c .before .before .before .before .before .before .before .args in
-    let text = now (c-args .text) in
-    let vars = now (c-args .vars) in
-    let table = now (c-args .sizes) in
     let s = now (c-span .result) in
-    let names = nameBy text vars table (min 32 (c-args .n)) in
-    let one = valueBy text vars (c-args .n) table (span text (c-args .a + c-loop .i) (c-args .a + c-seek .result)) in
+    let names = nameBy (now (c-args .text)) (now (c-args .vars)) (now (c-args .sizes)) (min 32 (c-args .n)) in
     let j : c-seek .result ≤ length s = omega (arith, c-seek .ensures, seek-le 44 s (c-loop .i) (c-loop .inv .0)) in
-    let e = alternative-end numbering names text (c-args .a) (c-args .e) s (c-span .ensures) (c-loop .i) (c-seek .result) (c-seek .ensures) j (search needs) in
-    chosen-none text vars (c-args .n) table
-    ∙ sym (chosen-there _ one (numbering .none) e (c .before .before .value-size .ensures) (c .before .if1 .left)) ∙ c-loop .inv .1
+    alternative-nowhere names (c-loop .left) (now (c-args .text)) (c-args .a) (c-args .e) s (c-span .ensures) (c-loop .i) (c-seek .result) (c-seek .ensures) j (c-loop .inv .1) (c .before .before .value-size .ensures) (search needs) (c .before .if1 .left)
 
 add-i : tie.Need-add-i Inv-loop μ-loop
 add-i c = search needs
@@ -95,16 +81,10 @@ loop-again c =
     let c-loop = c .before .before .before .before .loop in
     let c-span = c .before .before .before .before .before .span in
     let c-args = c .before .before .before .before .before .before .before .args in
-    let text = now (c-args .text) in
-    let vars = now (c-args .vars) in
-    let table = now (c-args .sizes) in
     let s = now (c-span .result) in
-    let names = nameBy text vars table (min 32 (c-args .n)) in
-    let one = valueBy text vars (c-args .n) table (span text (c-args .a + c-loop .i) (c-args .a + c-seek .result)) in
+    let names = nameBy (now (c-args .text)) (now (c-args .vars)) (now (c-args .sizes)) (min 32 (c-args .n)) in
     let j : c-seek .result ≤ length s = omega (arith, c-seek .ensures, seek-le 44 s (c-loop .i) (c-loop .inv .0)) in
-    let later = oneBy text vars (c-args .n) table (alternatives (drop (c-seek .result + 1) s)) in
-    let e = alternative-next numbering names text (c-args .a) (c-args .e) s (c-span .ensures) (c-loop .i) (c-seek .result) (c-seek .ensures) j (search needs) in
-    (omega arith, sym (chosen-there _ one later e (c .before .before .value-size .ensures) (c .before .if1 .left)) ∙ c-loop .inv .1)
+    (omega arith, alternative-there names (c-loop .left) (now (c-args .text)) (c-args .a) (c-args .e) s (c-span .ensures) (c-loop .i) (c-seek .result) (c-seek .ensures) j (c-loop .inv .1) (c .before .before .value-size .ensures) (search needs) (c .before .if1 .left))
 
 pub pick-alternative-spec : {M : Type 1} → statement M
 pick-alternative-spec =

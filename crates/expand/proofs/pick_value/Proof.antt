@@ -1,12 +1,12 @@
 use borrow.Author.Needs.{needs}
 use native.Mathlib.Omega.{arith}
 use denote.Ref.{now}
-use mathlib.Core.Path.{_≡_, sym, ap, _∙_}
+use mathlib.Core.Path.{_≡_, ap}
 use Prim.Native.Nat.{_+_, _-_, _*_, _≤_, min}
-use Rattle.pattern.specs.Table.{bytesAt, valuesFrom, valuesOf}
-use Rattle.sizes.specs.Numbered.{Numbered, numbering, nameBy, valueBy, oneBy}
-use Rattle.sizes.proofs.Steps.{values-next, values-last, values-whole}
-use Rattle.expand.proofs.Laws.{chosen-here, chosen-there, chosen-none}
+use Rattle.pattern.specs.Table.{valuesFrom, valuesOf}
+use Rattle.sizes.specs.Numbered.{Numbered, numbering, nameBy, oneBy}
+use Rattle.sizes.proofs.Steps.{values-whole}
+use Rattle.expand.proofs.Laws.{value-here, value-there, value-nowhere}
 use Rattle.expand.proofs.pick_value.Statement.{statement}
 use Rattle.expand.proofs.pick_value.Tie as tie
 
@@ -68,14 +68,8 @@ returns : tie.Need-returns Inv-loop μ-loop
 returns c =
     let c-loop = c .before .before .before .before .before .loop in
     let c-args = c .before .before .before .before .before .before .before .before .before .args in
-    let c-least = c .before .before .before .before .before .before .least in
-    let text = now (c-args .text) in
-    let vars = now (c-args .vars) in
-    let table = now (c-args .sizes) in
-    let one = valueBy text vars (c-args .w) table (bytesAt text vars (96 + 2 * (16 * c-args .w + c-loop .k))) in
-    let later = oneBy text vars (c-args .w) table (valuesFrom text vars (c-least .result - (c-loop .k + 1)) (16 * c-args .w + (c-loop .k + 1))) in
-    let e = values-next numbering (nameBy text vars table (min 32 (c-args .w))) text vars (c-least .result) (c-loop .k) (16 * c-args .w) (search needs) in
-    sym (chosen-here _ one later e (c .before .value-size .ensures) (c .if1 .taken)) ∙ c-loop .inv .1
+    let names = nameBy (now (c-args .text)) (now (c-args .vars)) (now (c-args .sizes)) (min 32 (c-args .w)) in
+    value-here names (c-loop .left) (now (c-args .text)) (now (c-args .vars)) (c .before .before .before .before .before .before .least .result) (c-loop .k) (16 * c-args .w) (c-loop .inv .1) (search needs) (c .before .value-size .ensures) (c .if1 .taken)
 
 add-k : tie.Need-add-k Inv-loop μ-loop
 add-k c = search needs
@@ -87,25 +81,15 @@ loop-again : tie.Need-loop-again Inv-loop μ-loop
 loop-again c =
     let c-loop = c .before .before .before .before .before .loop in
     let c-args = c .before .before .before .before .before .before .before .before .before .args in
-    let c-least = c .before .before .before .before .before .before .least in
-    let text = now (c-args .text) in
-    let vars = now (c-args .vars) in
-    let table = now (c-args .sizes) in
-    let one = valueBy text vars (c-args .w) table (bytesAt text vars (96 + 2 * (16 * c-args .w + c-loop .k))) in
-    let later = oneBy text vars (c-args .w) table (valuesFrom text vars (c-least .result - (c-loop .k + 1)) (16 * c-args .w + (c-loop .k + 1))) in
-    let e = values-next numbering (nameBy text vars table (min 32 (c-args .w))) text vars (c-least .result) (c-loop .k) (16 * c-args .w) (search needs) in
-    (omega arith, sym (chosen-there _ one later e (c .before .value-size .ensures) (c .if1 .left)) ∙ c-loop .inv .1)
+    let names = nameBy (now (c-args .text)) (now (c-args .vars)) (now (c-args .sizes)) (min 32 (c-args .w)) in
+    (omega arith, value-there names (c-loop .left) (now (c-args .text)) (now (c-args .vars)) (c .before .before .before .before .before .before .least .result) (c-loop .k) (16 * c-args .w) (c-loop .inv .1) (search needs) (c .before .value-size .ensures) (c .if1 .left))
 
 returns-2 : tie.Need-returns-2 Inv-loop μ-loop
 returns-2 c =
     let c-loop = c .before .loop in
     let c-args = c .before .before .before .before .before .args in
-    let text = now (c-args .text) in
-    let vars = now (c-args .vars) in
-    let names = nameBy text vars (now (c-args .sizes)) (min 32 (c-args .w)) in
-    chosen-none text vars (c-args .w) (now (c-args .sizes))
-    ∙ sym (ap (λ (x : Numbered). x .nth (c-loop .left)) (values-last numbering names text vars (c .before .before .least .result) (c-loop .k) (16 * c-args .w) (search needs)))
-    ∙ c-loop .inv .1
+    let names = nameBy (now (c-args .text)) (now (c-args .vars)) (now (c-args .sizes)) (min 32 (c-args .w)) in
+    value-nowhere names (c-loop .left) (now (c-args .text)) (now (c-args .vars)) (c .before .before .least .result) (c-loop .k) (16 * c-args .w) (c-loop .inv .1) (search needs)
 
 pub pick-value-spec : {M : Type 1} → statement M
 pick-value-spec =
