@@ -2,14 +2,12 @@
 use Prim.Native.Nat.{ℕ, suc, _<_}
 use mathlib.Core.Path.{_≡_, refl, sym, ap, _∙_}
 use mathlib.Core.List.{List, [], _∷_, _++_, append-assoc, append-nil}
-use mathlib.Core.Bool.{Bool, true, false, not, _||_, _&&_, and-true, and-false, and-assoc, or-false}
+use mathlib.Core.Bool.{Bool, true, false, not, _||_, _&&_, and-false, or-false}
 use lib.Bits.{bitOr, or-zero-r}
 use lib.ListN.{length}
-use borrow.Author.Tests.{le-leb, lt-leb}
-use Rattle.scan.specs.Bytes.{every, some, if_then_else_}
+use borrow.Author.Tests.{eq-eqb, le-leb, lt-leb}
+use Rattle.scan.specs.Bytes.{some, if_then_else_}
 use Rattle.perms.specs.Sets.{has, setOf}
-use Rattle.modes.specs.declared.Transition.{Transition}
-use Rattle.modes.specs.declared.Transition.the-variants.{Absent, ByMode}
 use Rattle.perms.proofs.Laws.{set-eq}
 use Rattle.text.specs.Reading.{Reading}
 use Rattle.text.specs.declared.Place.{Place}
@@ -18,9 +16,9 @@ use Rattle.pattern.specs.Expansions.{Variable}
 use Rattle.pattern.specs.Faults.{patternFault}
 use Rattle.matcher.specs.Match.{matchesSome, matchesExactly}
 use Rattle.matcher.specs.Walk.{pathFits}
-use Rattle.glob.specs.Glob.{matchedOf, textFits}
+use Rattle.expand.specs.Write.{textFits}
+use Rattle.glob.specs.Glob.{matchedOf}
 use Rattle.glob.specs.declared.Matched.{Matched}
-use Rattle.glob.proofs.Laws.{matched-good}
 use Rattle.rule.specs.Rules.{Rule, Step, ruleAt}
 use Rattle.rule.specs.Places.{ruleOf}
 use Rattle.text.specs.Places.{spanOf}
@@ -38,6 +36,11 @@ use Rattle.weigh.proofs.Sound.{All, Sound, rule-sound, rules-sound}
 
 pub fitting : {text path : List ℕ} → Fits text path → (textFits text && pathFits path) ≡ true
 fitting {text} f = rw (le-leb (length text) 65535 (f .short)) (f .fits)
+
+matched-fit : (text path : List ℕ) (vs : List Variable) (pattern : List ℕ) → (textFits text && pathFits path) ≡ true → patternFault vs pattern ≡ 0 →
+    matchedOf text vs pattern path ≡ record { some = matchesSome vs pattern path; exact = matchesExactly vs pattern path }
+unfolding matchedOf
+matched-fit text path vs pattern e g = rw (e, eq-eqb (patternFault vs pattern) 0 g)
 
 module _ (text : List ℕ) (vs : List Variable) (a : Access) (k at : ℕ) where
   pub gathered-long : 65535 < length text → gatheredOf text vs a k at ≡ nothing
@@ -123,7 +126,7 @@ module _ (vs : List Variable) (r : Rule) (h : Sound vs r) where
         weighedBy (q .owner) (matchedOf text vs (r .pattern) (q .path)) r (weighed f) ≡ weighed (join f (findings vs q (r ∷ [])))
     weigh-one text fits =
         let e : (textFits text && pathFits (q .path)) ≡ true = fitting fits in
-        ap (λ (m : Matched). weighedBy (q .owner) m r (weighed f)) (sym (matched-good text (q .path) vs (r .pattern) e (h .good) (λ w. refl)))
+        ap (λ (m : Matched). weighedBy (q .owner) m r (weighed f)) (matched-fit text (q .path) vs (r .pattern) e (h .good))
         ∙ sym weigh-joined
 
 -- by what the code asks, where it found x

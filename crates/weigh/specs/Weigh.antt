@@ -8,7 +8,7 @@ use Rattle.scan.specs.Bytes.{if_then_else_}
 use Rattle.matcher.specs.Walk.{pathFits}
 use Rattle.pattern.specs.Expansions.{Variable}
 use Rattle.pattern.specs.Faults.{patternFault}
-use Rattle.glob.specs.Glob.{textFits}
+use Rattle.expand.specs.Write.{textFits}
 use Rattle.glob.specs.declared.Matched.{Matched}
 use Rattle.statement.specs.Steps.{rulesFrom}
 use Rattle.findings.specs.Findings.{Access, findings}

@@ -17,7 +17,7 @@ ghost use Prim.Native.Nat.{ℕ};
 ghost use Rattle.pattern.specs.Faults.{patternFault};
 ghost use Rattle.pattern.specs.Table.{env};
 ghost use Rattle.sizes.specs.Sizes.{Known};
-ghost use Rattle.glob.specs.Glob.{matchedOf};
+ghost use Rattle.glob.specs.Glob.{matchedIn};
 ghost use Rattle.rule.specs.Places.{ruleOf};
 ghost use Rattle.text.specs.Places.{spanOf};
 ghost use Rattle.statement.specs.Steps.{rulesFrom};
@@ -43,7 +43,7 @@ fn no_findings() -> Findings
     }
 }
 
-// The findings with one rule more, whose pattern has no fault, under the first n variables, whose sizes are known.
+// The findings with one rule more, under the first n variables and their sizes.
 fn weigh(
     text: &[u8],
     vars: &[usize; 1120],
@@ -54,11 +54,8 @@ fn weigh(
     rule: Rule,
     found: Findings,
 ) -> Findings
-    ensures { λ r. ⌜ (Known (now (text .entry)) (now (vars .entry)) n (now (sizes .entry)) →
-        Fits (now (text .entry)) (now (path .entry)) →
-        patternFault (env (now (text .entry)) (now (vars .entry)) n) (spanOf (now (text .entry)) (rule .pattern)) ≡ 0 →
-        seenFindings (now (text .entry)) r
-        ≡ weighedBy owner (matchedOf (now (text .entry)) (env (now (text .entry)) (now (vars .entry)) n) (spanOf (now (text .entry)) (rule .pattern)) (now (path .entry))) (ruleOf (now (text .entry)) rule) (seenFindings (now (text .entry)) found)) ⌝ }
+    ensures { λ r. ⌜ seenFindings (now (text .entry)) r
+        ≡ weighedBy owner (matchedIn (now (text .entry)) (now (vars .entry)) n (now (sizes .entry)) (spanOf (now (text .entry)) (rule .pattern)) (now (path .entry))) (ruleOf (now (text .entry)) rule) (seenFindings (now (text .entry)) found) ⌝ }
 {
     if rule.owner & !owner {
         return found;

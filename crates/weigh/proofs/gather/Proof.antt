@@ -1,16 +1,20 @@
 use borrow.Author.Needs.{needs}
 use denote.Ref.{now}
 use native.Mathlib.Omega.{arith}
-use Prim.Native.Nat.{suc, _+_, _≤_, _-_}
-use mathlib.Core.Path.{_≡_, sym, _∙_}
+use Prim.Native.Nat.{ℕ, suc, _+_, _≤_, _-_}
+use mathlib.Core.Path.{_≡_, sym, ap, _∙_}
+use mathlib.Core.List.{List}
 use Rattle.pattern.specs.Faults.{patternFault}
 use Rattle.pattern.specs.Table.{env}
-use Rattle.sizes.specs.Sizes.{Known}
 use Rattle.rule.specs.Rules.{ruleAt}
 use Rattle.statement.specs.Steps.{rulesFrom}
 use Rattle.faults.proofs.Laws.{faults-known}
 use Rattle.findings.specs.Weighed.{nothing, seenFindings}
-use Rattle.weigh.specs.Weigh.{Fits}
+use Rattle.text.specs.Places.{spanOf}
+use Rattle.rule.specs.Places.{ruleOf}
+use Rattle.glob.specs.declared.Matched.{Matched}
+use Rattle.glob.proofs.Laws.{matched-known}
+use Rattle.weigh.specs.Weigh.{weighedBy}
 use Rattle.weigh.proofs.Laws.{gathered, gathered-rules, gather-more, gather-close, gather-refused, gather-end, read-good}
 use Rattle.weigh.proofs.gather.Statement.{statement}
 use Rattle.weigh.proofs.gather.Tie as tie
@@ -53,10 +57,12 @@ loop-again c =
     let s = now (a .text) in
     let vs = env s (now (a .vars)) (a .n) in
     let w = seenFindings s (l .found) in
+    let rule = c .before .before .r .given .0 .0 in
+    let step = c .before .before .before .before .rule-at .ensures .0 ∙ ap (λ (f : List ℕ → ℕ). ruleAt f s (l .place .0)) (faults-known (k .0)) in
     let e : a .count - l .i ≡ suc (a .count - (l .i + 1)) = omega arith in (
       omega arith,
-      rw (c .weigh .ensures (k .0) (k .1) (read-good vs s (l .place .0) (c .before .before .before .before .rule-at .ensures .0 ∙ ap (λ (f : List ℕ → ℕ). ruleAt f s (l .place .0)) (faults-known (k .0))) (c .before .before .r .given .1)))
-          (sym (gather-more vs s (now (a .path)) (a .owner) (l .place .0) w (a .count - (l .i + 1)) (c .before .before .before .before .rule-at .ensures .0 ∙ ap (λ (f : List ℕ → ℕ). ruleAt f s (l .place .0)) (faults-known (k .0))) (c .before .before .r .given .1))
+      rw (c .weigh .ensures ∙ ap (λ (m : Matched). weighedBy (a .owner) m (ruleOf s rule) w) (matched-known (k .0) (spanOf s (rule .pattern)) (now (a .path)) (read-good vs s (l .place .0) step (c .before .before .r .given .1))))
+          (sym (gather-more vs s (now (a .path)) (a .owner) (l .place .0) w (a .count - (l .i + 1)) step (c .before .before .r .given .1))
           ∙ (rw e at (l .inv .1))),
     )
 
