@@ -4,3 +4,4 @@ pub mod Asked
 pub mod Orders
 pub mod Written
 pub mod Examples
+pub mod WrittenExamples
