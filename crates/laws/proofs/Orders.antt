@@ -1,7 +1,7 @@
 -- Demand 3 on texts: rules in another order, deny rules added, allow rules added, other profiles.
 use Prim.Native.Nat.{ℕ, _<_}
-use mathlib.Core.Path.{_≡_, refl, sym, ap, ap₂, _∙_}
-use mathlib.Core.List.{List, [], _∷_}
+use mathlib.Core.Path.{_≡_, refl, sym, ap, ap₂, _∙_, subst}
+use mathlib.Core.List.{List, [], _∷_, List·Memᴰ}
 use mathlib.Core.Bool.{Bool, true, false, not, _||_, _&&_, false≢true, and-false}
 use mathlib.Core.Logic.{⊎-elim, _⊎_, inl, inr}
 use native.Mathlib.Omega.{arith}
@@ -15,16 +15,16 @@ use Rattle.modes.specs.declared.Execute.{Execute}
 use Rattle.modes.specs.declared.Execute.the-variants.{NotAsked, Denied, Conflict, ByMode}
 use Rattle.pattern.specs.Expansions.{Variable}
 use Rattle.rule.specs.Rules.{Rule}
-use Rattle.profile.specs.Profiles.{File}
+use Rattle.profile.specs.Profiles.{Profile, File}
 use Rattle.findings.specs.Findings.{Access, Move, Findings, applies, allows, audited, denies, exactly, otherwise, those, bits, moveBy, moves, findings, sameMove, SameMembers, Equal, Choice, None, Single, Several, choice}
 use Rattle.answer.specs.Answers.{preferred, chosen, isMode, namedBy, targetOf, moveOf, executeOf, grants, answerFrom, refusal}
 use Rattle.decide.specs.Decide.{answerOf}
 use Rattle.answer.specs.declared.Answer.{Answer}
-use Rattle.laws.specs.Asked.{named, rulesOf}
+use Rattle.laws.specs.Asked.{rulesOf}
 use Rattle.laws.specs.Orders.{Accepted, SameRules, Added, SameButRules, NoMore, NoLess}
 use Rattle.matcher.proofs.Laws.{or-cases, or-r}
 use Rattle.laws.proofs.Fixed.{answer-fixed, move-fixed}
-use Rattle.laws.proofs.Texts.{one-name, texts-by}
+use Rattle.laws.proofs.Texts.{held, one-name, texts-by}
 use Rattle.laws.proofs.Parts.{some-same, some-kept, some-grows, bitTest, moveTest, bits-by, has-bit, moves-by}
 
 -- ---- the same rules
@@ -327,9 +327,12 @@ allow-added s t name path asked owner f g a b same =
 
 -- "With the same preamble and the same rules in the asked profile, two accepted files that both hold it answer alike, whatever their
 -- other profiles hold."
-pub other-profiles : (s t name path : List ℕ) (asked : ℕ) (owner : Bool) (f g : File) → Accepted s f → Accepted t g → f .preamble ≡ g .preamble
-    → named name (f .profiles) ≡ true → named name (g .profiles) ≡ true → SameRules (rulesOf name (f .profiles)) (rulesOf name (g .profiles))
+pub other-profiles : (s t name path : List ℕ) (asked : ℕ) (owner : Bool) (f g : File) (p q : Profile) → Accepted s f → Accepted t g → f .preamble ≡ g .preamble
+    → List·Memᴰ p (f .profiles) → List·Memᴰ q (g .profiles) → p .name ≡ name → q .name ≡ name → SameRules (p .rules) (q .rules)
     → answerOf s name path asked owner ≡ answerOf t name path asked owner
-other-profiles s t name path asked owner f g a b same here there rules =
-    one-name SameRules (λ x y. x ≡ y) s t name path asked owner f g (λ n line. refl) (λ vs xs ys h. rules-same vs (record { path = path; owner = owner }) asked xs ys h) a b
-    same (here ∙ sym there) (λ e. rules)
+other-profiles s t name path asked owner f g p q a b same m k d e rules =
+    let x = held s f a p m name d in
+    let y = held t g b q k name e in
+    one-name SameRules (λ u v. u ≡ v) s t name path asked owner f g (λ n line. refl) (λ vs xs ys h. rules-same vs (record { path = path; owner = owner }) asked xs ys h) a b
+    same (x .0 ∙ sym (y .0))
+    (λ _. subst (λ (rs : List Rule). SameRules rs (rulesOf name (g .profiles))) (sym (x .1)) (subst (λ (rs : List Rule). SameRules (p .rules) rs) (sym (y .1)) rules))

@@ -182,24 +182,12 @@ transition-changes = (refl, refl)
 abbrev alone : File
 alone = only "/p" (readA ∷ [])
 
-abbrev beside : File
-beside = record { preamble = []; profiles = record { name = bytes "/q"; rules = writeB ∷ [] } ∷ record { name = bytes "/p"; rules = readA ∷ [] } ∷ [] }
-
 pub alone-file : Accepted (bytes "/p { /a r, }") alone
 unfolding computed
 alone-file = record { short = omega arith; file = refl }
 
-pub beside-file : Accepted (bytes "/q { /b w, } profile /p { /a r, }") beside
-unfolding computed
-beside-file = record { short = omega arith; file = refl }
-
-pub both-hold : (named (bytes "/p") (alone .profiles) ≡ true) × (named (bytes "/p") (beside .profiles) ≡ true)
-unfolding computed named
-both-hold = (refl, refl)
-
-pub both-alike : rulesOf (bytes "/p") (alone .profiles) ≡ rulesOf (bytes "/p") (beside .profiles)
-unfolding computed rulesOf
-both-alike = refl
+pub both-hold : List·Memᴰ profileP (alone .profiles) × List·Memᴰ profileP (qp .profiles)
+both-hold = (List·Memᴰ·head refl, List·Memᴰ·tail (List·Memᴰ·head refl))
 
 -- ---- equal findings of two texts, on other paths and with other owner marks
 
