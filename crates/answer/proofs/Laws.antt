@@ -1,6 +1,6 @@
 -- Laws of the parts of an answer.
-use Prim.Native.Nat.{ℕ, suc, _+_, _-_, _<_, _≤_}
-use mathlib.Core.Path.{_≡_, refl, sym, ap, _∙_, subst}
+use Prim.Native.Nat.{ℕ, suc, _+_, _-_, _<_, _≤_, min}
+use mathlib.Core.Path.{_≡_, refl, sym, ap, ap₂, _∙_, subst}
 use mathlib.Core.List.{List, [], _∷_, _++_, append-assoc}
 use mathlib.Core.Bool.{Bool, true, false, not, _||_, _&&_, and-true, or-true, or-false, false≢true}
 use native.Mathlib.Numerals.{add-one}
@@ -17,8 +17,9 @@ use Rattle.modes.specs.declared.Execute.{Execute}
 use Rattle.modes.specs.declared.Execute.the-variants.{NotAsked, Denied, Conflict, ByMode}
 use Rattle.perms.proofs.Laws.{and-left, has-and, has-or, has-set, has-within, has-without, set-eq, set-lt, within-has}
 use Rattle.findings.specs.Findings.{Move, Findings, Choice, None, Single, Several, choice, sameMove}
-use Rattle.answer.specs.Answers.{preferred, x, executeOf, grants, isMode, moveOf, namedBy, records, targetOf}
-use Rattle.answer.specs.Parts.{Granted, Recorded, executeBy, firstOf, targetBy}
+use Rattle.findings.specs.Weighed.{Weighed, weighed}
+use Rattle.answer.specs.Answers.{answerFrom, preferred, x, executeBy, executeOf, grants, grantsBy, isMode, moveOf, namedBy, records, recordsBy, targetOf}
+use Rattle.answer.specs.Parts.{Granted, Recorded, answerTo, firstOf, targetBy}
 
 -- ---- the sets {x} and of all permissions
 
@@ -58,10 +59,6 @@ first-choice (m ∷ ms) os = go (every (sameMove m) ms)
     go : (b : Bool) → firstOf (if b then Single m else Several) (choice os) ≡ (if b then Single m else Several)
     go true = refl
     go false = refl
-
-pub move-is : (f : Findings) (e o : Choice) → e ≡ choice (f .exact) → o ≡ choice (f .others) → firstOf e o ≡ moveOf f
-unfolding moveOf
-move-is f e o p q = rw (p, q) (first-choice (f .exact) (f .others))
 
 pub named-target : (e : Execute) (c : Choice) → targetBy (isMode e) c ≡ namedBy e c
 named-target NotAsked c = refl
@@ -130,49 +127,54 @@ module _ (asked granted denied : Perms) (allowedAudit deniedAudit : ℕ) (hg : g
 
 -- ---- the parts as the definitions have them
 
-module _ (f : Findings) (asked wanted : ℕ) (e : wanted ≡ bitAnd asked 127) where
+module _ (w : Weighed) (asked wanted : ℕ) (e : wanted ≡ bitAnd asked 127) where
   same : (k : ℕ) → k < 7 → has wanted k ≡ has asked k
   same k l = ap (λ (n : ℕ). has n k) e ∙ masked asked k l
 
   small : wanted < 128
   small = omega (arith, masked-lt asked)
 
-  pub execute-is : (denied : ℕ) (c : Choice) → denied ≡ f .denied → c ≡ moveOf f → executeBy wanted denied c ≡ executeOf f asked
-  unfolding executeBy executeOf
-  execute-is denied c p q = rw (same x (omega arith), p, q)
+  pub execute-is : (c : Choice) → executeBy wanted (w .denied) c ≡ executeBy asked (w .denied) c
+  execute-is c = rw (same x (omega arith))
 
-  pub granted-is : (allowed denied r : ℕ) (mode : Bool) → allowed ≡ f .allowed → denied ≡ f .denied → mode ≡ isMode (executeOf f asked)
-      → Granted wanted allowed denied mode r → r ≡ setOf 7 (grants f asked)
-  unfolding grants
-  granted-is allowed denied r mode p q m g = set-eq 7 r (grants f asked) (g .small small) (λ k l. g .each k l ∙ rw (same k l, p, q, m))
+  module _ (x : Execute) where
+    abbrev grant : ℕ → Bool
+    grant = grantsBy asked (w .allowed) (w .denied) x
 
-  granted-asked : (k : ℕ) → grants f asked k ≡ true → has asked k ≡ true
-  unfolding grants
-  granted-asked k h =
-      let a : Bool = has asked k in
-      let b : Bool = a && has (f .allowed) k in
-      let d : Bool = not (has (f .denied) k) in
-      and-left a (has (f .allowed) k) (and-left b d (and-left (b && d) (not (eqb k x) || isMode (executeOf f asked)) h))
+    pub granted-is : (r : ℕ) (mode : Bool) → mode ≡ isMode x → Granted wanted (w .allowed) (w .denied) mode r → r ≡ setOf 7 grant
+    granted-is r mode m g = set-eq 7 r grant (g .small small) (λ k l. g .each k l ∙ rw (same k l, m))
 
-  pub recorded-is : (granted allowedAudit denied deniedAudit r : ℕ) → granted ≡ setOf 7 (grants f asked)
-      → allowedAudit ≡ f .allowedAudit → denied ≡ f .denied → deniedAudit ≡ f .deniedAudit
-      → Recorded wanted granted allowedAudit denied deniedAudit r → r ≡ setOf 7 (records f asked)
-  unfolding records
-  recorded-is granted allowedAudit denied deniedAudit r q p d t h =
-      set-eq 7 r (records f asked) (h .small small (rw q (set-lt 7 (grants f asked))))
-      (λ k l. h .each k l
-      ∙ rw (same k l, ap (λ (n : ℕ). has n k) q ∙ has-set 7 (grants f asked) k l, p, d, t)
-      (go (has asked k) (grants f asked k) (has (f .allowedAudit) k) (has (f .denied) k) (has (f .deniedAudit) k) (granted-asked k)))
-    where
-      go : (a g p d q : Bool) → (g ≡ true → a ≡ true)
-          → (((g && p) || (((a && not g) && d) && q)) || ((a && not g) && not d)) ≡ (a && (if g then p else if d then q else true))
-      go true true true d q h = refl
-      go true true false d q h = refl
-      go true false p true true h = refl
-      go true false p true false h = refl
-      go true false p false q h = refl
-      go false true p d q h = absurd (false≢true (h refl))
-      go false false p d q h = refl
+    granted-asked : (k : ℕ) → grant k ≡ true → has asked k ≡ true
+    granted-asked k h =
+        let a : Bool = has asked k in
+        let b : Bool = a && has (w .allowed) k in
+        let d : Bool = not (has (w .denied) k) in
+        and-left a (has (w .allowed) k) (and-left b d (and-left (b && d) (not (eqb k 6) || isMode x) h))
+
+    abbrev keep : ℕ → Bool
+    keep k = recordsBy asked (grant k) (w .allowedAudit) (w .denied) (w .deniedAudit) k
+
+    pub recorded-is : (granted r : ℕ) → granted ≡ setOf 7 grant → Recorded wanted granted (w .allowedAudit) (w .denied) (w .deniedAudit) r → r ≡ setOf 7 keep
+    recorded-is granted r q h =
+        set-eq 7 r keep (h .small small (rw q (set-lt 7 grant)))
+        (λ k l. h .each k l
+        ∙ rw (same k l, ap (λ (n : ℕ). has n k) q ∙ has-set 7 grant k l)
+        (go (has asked k) (grant k) (has (w .allowedAudit) k) (has (w .denied) k) (has (w .deniedAudit) k) (granted-asked k)))
+      where
+        go : (a g p d q : Bool) → (g ≡ true → a ≡ true)
+            → (((g && p) || (((a && not g) && d) && q)) || ((a && not g) && not d)) ≡ (a && (if g then p else if d then q else true))
+        go true true true d q h = refl
+        go true true false d q h = refl
+        go true false p true true h = refl
+        go true false p true false h = refl
+        go true false p false q h = refl
+        go false true p d q h = absurd (false≢true (h refl))
+        go false false p d q h = refl
+
+-- the answer of findings is that of what is gathered of them
+pub answer-gathered : (f : Findings) (asked : ℕ) → answerTo (weighed f) asked ≡ answerFrom f asked
+unfolding answerTo answerFrom weighed executeOf grants records moveOf
+answer-gathered f asked = rw (first-choice (f .exact) (f .others))
 
 -- ---- the bytes of a target
 
@@ -186,5 +188,13 @@ fill-next s l n h k e =
     ∙ ap (λ (t : List ℕ). t ++ replicate (255 - (n + 1)) 0) (sym (take-suc s n 0 h) ∙ ap (λ (j : ℕ). take j s) (sym (add-one n)))
 
 -- all of them
-pub fill-end : (s l : List ℕ) (n : ℕ) → n ≡ length s → l ≡ take n s ++ replicate (255 - n) 0 → record { bytes = l; len = n } ≡ targetOf s
-fill-end s l n h e = λ i. record { bytes = (e ∙ ap (λ (t : List ℕ). t ++ replicate (255 - n) 0) (take-all n s (omega arith)) ∙ ap (λ (j : ℕ). s ++ replicate (255 - j) 0) h) i; len = h i }
+pub fill-end : (s l : List ℕ) (n : ℕ) → n ≡ length s → n ≤ 255 → l ≡ take n s ++ replicate (255 - n) 0 → record { bytes = l; len = n } ≡ targetOf s
+fill-end s l n h k e =
+    let whole : take n s ≡ take 255 s = take-all n s (omega arith) ∙ sym (take-all 255 s (omega arith)) in
+    λ i. record { bytes = (e ∙ ap₂ (λ (a : List ℕ) (j : ℕ). a ++ replicate (255 - j) 0) whole h) i; len = (let m : n ≡ min 255 (length s) = omega arith in m) i }
+
+-- all that have room
+pub fill-full : (s l : List ℕ) (n : ℕ) → n ≡ 255 → 255 ≤ length s → l ≡ take n s ++ replicate (255 - n) 0 → record { bytes = l; len = n } ≡ targetOf s
+fill-full s l n h k e =
+    let none : 255 - n ≡ 255 - length s = omega arith in
+    λ i. record { bytes = (e ∙ ap₂ (λ (j m : ℕ). take j s ++ replicate m 0) h none) i; len = (let m : n ≡ min 255 (length s) = omega arith in m) i }

@@ -1,8 +1,8 @@
 -- The answer that findings give, and refusals.
-use Prim.Native.Nat.{ℕ, _-_}
+use Prim.Native.Nat.{ℕ, _-_, min}
 use mathlib.Core.List.{List, [], _∷_, _++_}
 use mathlib.Core.Bool.{Bool, true, false, not, _||_, _&&_}
-use lib.ListN.{length, replicate}
+use lib.ListN.{length, replicate, take}
 use lib.Dec.{eqb}
 use Rattle.scan.specs.Bytes.{if_then_else_}
 use Rattle.perms.specs.Sets.{has, setOf, perms}
@@ -34,8 +34,12 @@ x = 6
 unfoldable pub moveOf : Findings → Choice
 moveOf f = choice (preferred (f .exact) (f .others))
 
+-- what x is answered, by the denied bits and the transition taken
+abbrev pub executeBy : (asked denied : ℕ) → Choice → Execute
+executeBy asked denied c = if has asked x then chosen (has denied x) c else NotAsked
+
 unfoldable pub executeOf : Findings → (asked : ℕ) → Execute
-executeOf f asked = if has asked x then chosen (has (f .denied) x) (moveOf f) else NotAsked
+executeOf f asked = executeBy asked (f .denied) (moveOf f)
 
 -- ---- granted, recorded, target
 
@@ -46,20 +50,23 @@ isMode Conflict = false
 isMode (ByMode m) = true
 
 -- "asked bits that are allowed and not denied; x only with a single transition"
+abbrev pub grantsBy : (asked allowed denied : ℕ) → Execute → ℕ → Bool
+grantsBy asked allowed denied e k = has asked k && has allowed k && not (has denied k) && (not (eqb k x) || isMode e)
+
 unfoldable pub grants : Findings → (asked : ℕ) → ℕ → Bool
-grants f asked k = has asked k && has (f .allowed) k && not (has (f .denied) k) && (not (eqb k x) || isMode (executeOf f asked))
+grants f asked k = grantsBy asked (f .allowed) (f .denied) (executeOf f asked) k
 
 -- "granted bits with an audit allow; refused bits not denied by a rule, conflict included; denied bits with an audit deny"
-unfoldable pub records : Findings → (asked : ℕ) → ℕ → Bool
-records f asked k =
-    has asked k
-    && (if grants f asked k then has (f .allowedAudit) k
-    else if has (f .denied) k then has (f .deniedAudit) k
-    else true)
+abbrev pub recordsBy : (asked : ℕ) → (granted : Bool) → (allowedAudit denied deniedAudit : ℕ) → ℕ → Bool
+recordsBy asked granted allowedAudit denied deniedAudit k =
+    has asked k && (if granted then has allowedAudit k else if has denied k then has deniedAudit k else true)
 
--- "Target: 255 bytes and a length, zero beyond it and zero when absent."
+unfoldable pub records : Findings → (asked : ℕ) → ℕ → Bool
+records f asked k = recordsBy asked (grants f asked k) (f .allowedAudit) (f .denied) (f .deniedAudit) k
+
+-- "Target: 255 bytes and a length, zero beyond it and zero when absent."; no target that was read is longer
 abbrev pub targetOf : List ℕ → Target
-targetOf s = record { bytes = s ++ replicate (255 - length s) 0; len = length s }
+targetOf s = record { bytes = take 255 s ++ replicate (255 - length s) 0; len = min 255 (length s) }
 
 -- a target is named only with a mode
 abbrev pub namedBy : Execute → Choice → List ℕ

@@ -4,12 +4,13 @@ use mathlib.Core.Path.{_≡_}
 use mathlib.Core.List.{List, []}
 use mathlib.Core.Bool.{Bool, true, false, not, _||_, _&&_}
 use lib.Dec.{eqb}
-use Rattle.scan.specs.Bytes.{if_then_else_}
-use Rattle.perms.specs.Sets.{has}
+use Rattle.perms.specs.Sets.{has, setOf, perms}
 use Rattle.modes.specs.declared.Execute.{Execute}
-use Rattle.modes.specs.declared.Execute.the-variants.{NotAsked}
 use Rattle.findings.specs.Findings.{Choice, None, Single, Several}
-use Rattle.answer.specs.Answers.{chosen, x}
+use Rattle.findings.specs.Weighed.{Weighed}
+use Rattle.answer.specs.Answers.{executeBy, grantsBy, namedBy, recordsBy, targetOf, x}
+use Rattle.answer.specs.declared.Answer.{Answer}
+use Rattle.answer.specs.declared.Verdict.the-variants.{Answered}
 
 -- the first choice unless it has no member, else the second
 abbrev pub firstOf : Choice → Choice → Choice
@@ -17,16 +18,25 @@ firstOf None c = c
 firstOf (Single m) c = Single m
 firstOf Several c = Several
 
--- what x is answered
-unfoldable pub executeBy : (asked denied : ℕ) → Choice → Execute
-executeBy asked denied c = if has asked x then chosen (has denied x) c else NotAsked
-
 -- the target that a choice names
 abbrev pub targetBy : (mode : Bool) → Choice → List ℕ
 targetBy false c = []
 targetBy true None = []
 targetBy true (Single m) = m .target
 targetBy true Several = []
+
+-- the answer that findings give as they are gathered
+unfoldable pub answerTo : Weighed → (asked : ℕ) → Answer
+answerTo w asked =
+    let c : Choice = firstOf (w .exact) (w .others) in
+    let e : Execute = executeBy asked (w .denied) c in
+    record {
+      verdict = Answered;
+      granted = perms (setOf 7 (grantsBy asked (w .allowed) (w .denied) e));
+      recorded = perms (setOf 7 (λ k. recordsBy asked (grantsBy asked (w .allowed) (w .denied) e k) (w .allowedAudit) (w .denied) (w .deniedAudit) k));
+      execute = e;
+      target = targetOf (namedBy e c);
+    }
 
 -- the set r holds what is asked, allowed and not denied, and x only with a mode
 pub record Granted (asked allowed denied : ℕ) (mode : Bool) (r : ℕ) : Type 0 where

@@ -6,15 +6,12 @@ use perms::Perms;
 use text::Refusal;
 ghost use mathlib.Core.Path.{_≡_};
 ghost use mathlib.Core.List.{List, []};
-ghost use Prim.Native.Nat.{ℕ, _≤_};
+ghost use Prim.Native.Nat.{ℕ};
 ghost use lib.Bits.{bitAnd};
-ghost use lib.ListN.{length};
 ghost use Rattle.perms.specs.Sets.{perms};
-ghost use Rattle.findings.specs.Findings as meant;
-ghost use Rattle.findings.specs.Weighed.{seenChoice, seenFindings, weighed};
-ghost use Rattle.answer.specs.Answers.{answerFrom, isMode, moveOf, refusal, targetOf};
-ghost use Rattle.answer.specs.Parts.{Granted, Recorded, executeBy, firstOf, targetBy};
-ghost use Rattle.answer.specs.Short.{Short};
+ghost use Rattle.findings.specs.Weighed.{seenChoice, seenFindings};
+ghost use Rattle.answer.specs.Answers.{executeBy, isMode, refusal, targetOf};
+ghost use Rattle.answer.specs.Parts.{Granted, Recorded, answerTo, firstOf, targetBy};
 
 // The target of a transition: its bytes and how many they are; zero beyond them.
 pub struct Target {
@@ -120,9 +117,9 @@ fn no_target() -> Target
     }
 }
 
-// The target of these bytes, at most 255.
+// The target of these bytes, of which at most 255 have room.
 fn target_from(name: &[u8]) -> Target
-    ensures { λ r. ⌜ (length (now (name .entry)) ≤ 255 → r ≡ targetOf (now (name .entry))) ⌝ }
+    ensures { λ r. ⌜ r ≡ targetOf (now (name .entry)) ⌝ }
 {
     let mut bytes = [0u8; 255];
     let mut len = 0;
@@ -139,7 +136,7 @@ fn target_from(name: &[u8]) -> Target
 
 // The target that is named with a mode.
 fn target_of(text: &[u8], mode: bool, choice: Choice) -> Target
-    ensures { λ r. ⌜ (Short (seenChoice (now (text .entry)) choice) → r ≡ targetOf (targetBy mode (seenChoice (now (text .entry)) choice))) ⌝ }
+    ensures { λ r. ⌜ r ≡ targetOf (targetBy mode (seenChoice (now (text .entry)) choice)) ⌝ }
 {
     if !mode {
         return no_target();
@@ -157,7 +154,7 @@ fn target_of(text: &[u8], mode: bool, choice: Choice) -> Target
 
 // The answer that findings give to the asked permissions.
 pub fn finish(text: &[u8], found: Findings, asked: Perms) -> Answer
-    ensures { λ r. ⌜ ((f : meant.Findings) → seenFindings (now (text .entry)) found ≡ weighed f → Short (moveOf f) → r ≡ answerFrom f (asked .0)) ⌝ }
+    ensures { λ r. ⌜ r ≡ answerTo (seenFindings (now (text .entry)) found) (asked .0) ⌝ }
 {
     let wanted = both(asked, Perms(127));
     let exact = found.exact;

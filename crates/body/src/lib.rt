@@ -6,10 +6,9 @@ use text::Place;
 use text::Stop;
 use text::TOO_MUCH;
 ghost use mathlib.Core.Path.{_≡_};
-ghost use Rattle.pattern.specs.Table.{env};
-ghost use Rattle.sizes.specs.Sizes.{Known};
-ghost use Rattle.rule.specs.Rules.{rulesAt};
-ghost use Rattle.statement.specs.Steps.{counted, countedEnd, endAt};
+ghost use Rattle.faults.specs.Sized.{faultBy};
+ghost use Rattle.rule.specs.Rules.{endAt, rulesAt};
+ghost use Rattle.statement.specs.Steps.{counted, countedEnd};
 ghost use Rattle.body.specs.Places.{seenRules};
 
 // The number of rules and where reading goes on, or the refusal.
@@ -52,7 +51,7 @@ pub fn rules_at(
     left: usize,
     at: Place,
 ) -> RulesRead
-    ensures { λ r. ⌜ (Known (now (text .entry)) (now (vars .entry)) n (now (sizes .entry)) → seenRules r ≡ counted (rulesAt left (env (now (text .entry)) (now (vars .entry)) n) (now (text .entry)) (at .0))) ⌝ }
+    ensures { λ r. ⌜ seenRules r ≡ counted (rulesAt left (faultBy (now (text .entry)) (now (vars .entry)) n (now (sizes .entry))) (now (text .entry)) (at .0)) ⌝ }
 {
     let mut place = at;
     let mut count: usize = 0;

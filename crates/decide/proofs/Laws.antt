@@ -2,26 +2,24 @@
 use Prim.Native.Nat.{ℕ, zero, suc, _+_, _*_, _≤_, _<_}
 use Prim.Native.Char.{code}
 use mathlib.Core.Path.{_≡_, refl, sym, ap, _∙_}
-use mathlib.Core.List.{List, [], _∷_}
-use mathlib.Core.Bool.{Bool, true, false, not, _||_, _&&_, false≢true}
+use mathlib.Core.List.{List}
+use mathlib.Core.Bool.{Bool, true, false, not, _||_, false≢true}
 use lib.ListN.{length, getD}
 use lib.Dec.{ltb}
 use borrow.Author.Tests.{ltb-false, le-leb, lt-ltb, le-ltb}
-use native.Mathlib.Omega.{arith}
 use Rattle.scan.specs.Bytes.{begins, holds, isEmpty, same}
 use Rattle.text.specs.Reading.{Reading, Read, Refused}
 use Rattle.blanks.specs.Blanks.{nul}
 use Rattle.pattern.specs.Expansions.{Variable}
+use Rattle.pattern.specs.Faults.{patternFault}
 use Rattle.pattern.specs.Table.{bytesAt, env}
 use Rattle.matcher.specs.Walk.{pathFits}
 use Rattle.statement.specs.Steps.{rulesFrom}
 use Rattle.profile.specs.Profiles.{File, fileOf}
 use Rattle.profile.specs.Places.{Judged, Accepted, Rejected, judgedOf, profilesFrom, seenFile}
 use Rattle.profile.specs.declared.FileRead.{FileRead}
-use Rattle.findings.specs.Findings.{Access, Move, Findings, Single, findings}
-use Rattle.weigh.proofs.Sound.{All, ShortMove, choice-short, rules-short}
-use Rattle.answer.specs.Answers.{answerFrom, moveOf, preferred, refusal}
-use Rattle.answer.specs.Short.{Short}
+use Rattle.findings.specs.Findings.{Access, findings}
+use Rattle.answer.specs.Answers.{answerFrom, refusal}
 use Rattle.answer.specs.declared.Answer.{Answer}
 use Rattle.request.specs.Requests.{badAsked, badPath, doubled}
 use Rattle.decide.specs.Decide.{answerBy, answerIn, answerOf}
@@ -64,7 +62,7 @@ found-none s t i name = refl
 
 -- the answer of the rules that were found
 abbrev pub answerOfFound : List Variable → Access → (asked : ℕ) → List ℕ → Found → Answer
-answerOfFound vs q asked s (Rules at count) = answerFrom (findings vs q (rulesFrom count vs s (at .0))) asked
+answerOfFound vs q asked s (Rules at count) = answerFrom (findings vs q (rulesFrom count (patternFault vs) s (at .0))) asked
 answerOfFound vs q asked s Nowhere = refusal 11 0
 
 pub answer-found : (vs : List Variable) (q : Access) (asked : ℕ) (s t : List ℕ) (k i : ℕ) (name : List ℕ)
@@ -74,7 +72,7 @@ answer-found vs q asked s t zero i name = refl
 answer-found vs q asked s t (suc k) i name = go (same (bytesAt s t (4 * i)) name) (answer-found vs q asked s t k (i + 1) name)
   where
     rules : Answer
-    rules = answerFrom (findings vs q (rulesFrom (getD t (4 * i + 3) 0) vs s (getD t (4 * i + 2) 0))) asked
+    rules = answerFrom (findings vs q (rulesFrom (getD t (4 * i + 3) 0) (patternFault vs) s (getD t (4 * i + 2) 0))) asked
 
     go : (b : Bool) → answerIn vs q asked name (profilesFrom vs s t k (i + 1)) ≡ answerOfFound vs q asked s (foundFrom s t k (i + 1) name) →
         (elim b as (λ _. Answer) [ true ↦ rules | false ↦ answerIn vs q asked name (profilesFrom vs s t k (i + 1)) ])
@@ -135,16 +133,3 @@ module _ (text n path : List ℕ) (asked : ℕ) (owner : Bool) where
     answer-accepted f i =
         let vs = env text t (r .vars) in
         i ∙ sym (answer-read {j = Accepted vs (profilesFrom vs text (r .profiles) (r .count) 0)} (rw f))
-
--- ---- targets
-
-preferred-all : (P : Move → Type 0) (xs ys : List Move) → All P xs → All P ys → All P (preferred xs ys)
-preferred-all P [] ys h k = k
-preferred-all P (x ∷ xs) ys h k = h
-
-pub move-short : (vs : List Variable) (q : Access) (s : List ℕ) (k at : ℕ) → Short (moveOf (findings vs q (rulesFrom k vs s at)))
-unfolding moveOf
-move-short vs q s k at m e =
-    let h = rules-short vs q s k at in
-    let f : Findings = findings vs q (rulesFrom k vs s at) in
-    choice-short (preferred (f .exact) (f .others)) (preferred-all ShortMove (f .exact) (f .others) (h .0) (h .1)) m e

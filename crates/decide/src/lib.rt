@@ -10,7 +10,6 @@ use text::Place;
 use weigh::findings_of;
 ghost use mathlib.Core.Path.{_≡_};
 ghost use Prim.Native.Nat.{_≤_};
-ghost use Rattle.sizes.specs.Sizes.{Known};
 ghost use Rattle.pattern.specs.Table.{env};
 ghost use Rattle.profile.specs.Places.{profilesFrom};
 ghost use Rattle.weigh.specs.Weigh.{Fits};
@@ -52,13 +51,12 @@ fn find(text: &[u8], table: &[usize; 128], n: usize, name: &[u8]) -> Found
     Found::Nowhere
 }
 
-// The answer of an accepted text, by its first n variables, their sizes, and its profiles.
-fn answer_in<'a>(
+// The answer of an accepted text, by its first n variables and its profiles.
+fn answer_in(
     text: &[u8],
     vars: &[usize; 1120],
     n: usize,
-    sizes: &'a [usize; 132],
-    profiles: &'a [usize; 128],
+    profiles: &[usize; 128],
     count: usize,
     name: &[u8],
     path: &[u8],
@@ -66,7 +64,6 @@ fn answer_in<'a>(
     owner: bool,
 ) -> Answer
     requires { ⌜ count ≤ 32 ⌝ }
-    requires { ⌜ Known (now text) (now vars) n (now sizes) ⌝ }
     requires { ⌜ Fits (now text) (now path) ⌝ }
     ensures { λ r. ⌜ r ≡ answerIn (env (now (text .entry)) (now (vars .entry)) n) (record { path = now (path .entry); owner = owner }) (asked .0) (now (name .entry)) (profilesFrom (env (now (text .entry)) (now (vars .entry)) n) (now (text .entry)) (now (profiles .entry)) count 0) ⌝ }
 {
@@ -74,7 +71,7 @@ fn answer_in<'a>(
     let Found::Rules { at, count: rules } = r else {
         return refused(NO_PROFILE, 0);
     };
-    let found = findings_of(text, vars, n, sizes, path, owner, rules, at);
+    let found = findings_of(text, vars, n, path, owner, rules, at);
     finish(text, found, asked)
 }
 
@@ -101,7 +98,6 @@ pub fn decide(text: &[u8], name: &[u8], path: &[u8], asked: Perms, owner: bool) 
         text,
         &vars,
         f.vars,
-        &f.sizes,
         &f.profiles,
         f.count,
         name,

@@ -1,31 +1,31 @@
 -- An expansion written piece by piece, and one chosen by its number.
-use Prim.Native.Nat.{ℕ, zero, suc, _+_, _-_, _/_, _%_, _≤_, _<_, min}
+use Prim.Native.Nat.{ℕ, zero, suc, _+_, _*_, _-_, _≤_, _<_, min}
+use Prim.Native.Char.{code}
 use mathlib.Core.Path.{_≡_, refl, sym, ap, _∙_}
 use mathlib.Core.List.{List, [], _∷_, _++_, map, append-assoc, append-nil}
 use mathlib.Core.Bool.{Bool, true, false, _&&_}
-use lib.ListN.{length, getD, take, drop, length-append, length-map, length-take, set, length-set, List·getD-eq-default}
+use lib.ListN.{length, take, drop, length-append, length-map, length-take, set, length-set}
 use lib.Seq.{take-suc-set, take-all, take-at}
-use native.Mathlib.Nat.{not-suc-le-zero}
+use lib.Dec.{eqb}
+use borrow.Author.Tests.{le-leb, lt-leb, lt-ltb, le-ltb}
 use native.Mathlib.Numerals.{add-one}
 use native.Mathlib.Omega.{arith}
-use Prim.Native.Char.{code}
-use lib.Dec.{eqb}
 use Rattle.scan.specs.Bytes.{span, if_then_else_}
-use Rattle.pattern.specs.Pieces.{Piece, Part, part}
-use Rattle.pattern.specs.Items.{Single, Among, item, isClosed, alternatives, body}
+use Rattle.pattern.specs.Pieces.{Piece, Part, part, parts}
+use Rattle.pattern.specs.Items.{Single, Among, before, item, isClosed, alternatives, body}
 use Rattle.pattern.specs.Places.{partAt, partOf, itemAt, itemOf}
 use Rattle.pattern.specs.Codes.{decode}
-use Rattle.pattern.specs.Expansions.{Variable, across, listing, longest}
+use Rattle.pattern.specs.Expansions.{ofParts, oneOf}
 use Rattle.pattern.specs.Reads.{seenPart, seenItem}
-use Rattle.pattern.specs.Table.{env, numberOf, ofNumber}
+use Rattle.pattern.specs.Table.{bytesAt, valuesFrom, valuesOf, numberOf}
 use Rattle.pattern.specs.declared.ItemRead.{ItemRead}
 use Rattle.pattern.specs.declared.PartRead.{PartRead}
 use Rattle.pattern.specs.declared.PartRead.the-variants.{Use}
-use Rattle.pattern.proofs.Laws.{number-le, number-of}
-use Rattle.sizes.specs.Sizes.{Known, partChoices, valueChoices}
-use Rattle.sizes.proofs.Across.{Split, split, here, there}
-use Rattle.expand.specs.declared.Choice.{Choice}
-use Rattle.expand.specs.Write.{Asked, Wrote, Chosen, Written}
+use Rattle.pattern.proofs.Laws.{number-le}
+use Rattle.sizes.specs.declared.Size.{Size}
+use Rattle.sizes.specs.Numbered.{Numbered, numbering, lowOf, highOf, partBy, oneBy}
+use Rattle.sizes.proofs.Steps.{values-next, values-last, alternative-first, alternative-next, alternative-end, byNumber, name-number}
+use Rattle.expand.specs.Write.{textFits, Wrote, Written}
 
 -- ---- the buffer
 
@@ -43,7 +43,7 @@ module _ (text : List ℕ) where
         all = rw append-nil (sym (take-all (length out) (map (decode text) (take m out)) (rw length-map (omega (arith, length-take m out)))));
       }
 
-  pub wrote-then : {out mid end : List ℕ} {m n r : ℕ} {xs ys : List Piece} →
+  wrote-then : {out mid end : List ℕ} {m n r : ℕ} {xs ys : List Piece} →
       Wrote text out m mid n xs → Wrote text mid n end r ys → Wrote text out m end r (xs ++ ys)
   wrote-then {out} {mid} {end} {m} {n} {r} {xs} {ys} p q =
       record {
@@ -79,133 +79,79 @@ module _ (text : List ℕ) where
         all = sym (take-at (map (decode text) (take m out)) ys (length out) (length-front out m k ∙ omega arith));
       }
 
-  -- the only expansion
-  pub wrote-only : {out end : List ℕ} {m r : ℕ} (xs : List (List Piece)) (x : List Piece) (d : ℕ) → xs ≡ x ∷ [] → d < length xs →
-      Wrote text out m end r x → Wrote text out m end r (getD xs d [])
-  wrote-only xs x d e h w = let z : d ≡ 0 = omega (arith, rw e at h) in rw (e, z) w
+  -- all of a text that fits, and none of another
+  pub written-all : {out end : List ℕ} {r : ℕ} {xs : List Piece} → length text ≤ 65535 → Wrote text out 0 end r xs →
+      Written text out end r (if textFits text then xs else [])
+  written-all h p = rw (le-leb (length text) 65535 h) (record { size = p .size; fits = p .fits; all = p .all })
 
-  pub wrote-written : {out end : List ℕ} {r : ℕ} {xs : List Piece} → Wrote text out 0 end r xs → Written text out end r xs
-  wrote-written p = record { size = p .size; fits = p .fits; all = p .all }
+  pub written-none : (out : List ℕ) (xs : List Piece) → 65535 < length text → Written text out out 0 (if textFits text then xs else [])
+  written-none out xs h =
+      rw (lt-leb (length text) 65535 h) (record { size = refl; fits = omega arith; all = sym (take-all (length out) [] (omega arith)) })
 
-  pub written-none : (out : List ℕ) (xs : List (List Piece)) (d : ℕ) → length xs ≤ d → Written text out out 0 (getD xs d [])
-  written-none out xs d h =
-      record {
-        size = refl;
-        fits = omega arith;
-        all = rw (List·getD-eq-default xs [] h) (sym (take-all (length out) [] (omega arith)));
-      }
+-- ---- a loop that writes: what is written, and what is left
 
--- an expansion is no longer than the longest
-length-longest : (xs : List (List Piece)) (d : ℕ) → length (getD xs d []) ≤ longest xs
-unfolding longest
-length-longest [] d = omega arith
-length-longest (x ∷ xs) zero = omega arith
-length-longest (x ∷ xs) (suc d) = omega (arith, length-longest xs d)
-
--- where there is room for the longest, an expansion is written whole
-pub wrote-whole : (text out end : List ℕ) (r d : ℕ) (xs : List (List Piece)) → longest xs ≤ length out →
-    Written text out end r (getD xs d []) → map (decode text) (take r end) ≡ getD xs d []
-wrote-whole text out end r d xs h w = w .all ∙ take-all (length out) (getD xs d []) (omega (arith, length-longest xs d))
-
--- ---- a loop that writes: what is written, and the number of what is left
-
-pub record Writing (text out : List ℕ) (m : ℕ) (end : List ℕ) (r left : ℕ) (rest : List (List Piece)) (ends : List Piece) : Type 0 where
+pub record Writing (text out : List ℕ) (m : ℕ) (end : List ℕ) (r : ℕ) (rest ends : List Piece) : Type 0 where
   pub done : List Piece
   pub wrote : Wrote text out m end r done
-  pub number : done ++ getD rest left [] ≡ ends
-  pub within : left < length rest
-  pub small : left < 257
+  pub whole : done ++ rest ≡ ends
 
-module _ {text out : List ℕ} {m : ℕ} where
-  pub writing-none : {vars : List ℕ} {n : ℕ} {sizes : List ℕ} {d : ℕ} {xs : List (List Piece)} →
-      Asked text vars n sizes xs d out m → Writing text out m out m d xs (getD xs d [])
-  writing-none q = record { done = []; wrote = wrote-nil text out m (q .room); number = refl; within = q .within; small = q .small }
+module _ {text out : List ℕ} {m : ℕ} {ends : List Piece} where
+  pub writing-none : m ≤ length out → Writing text out m out m ends ends
+  writing-none h = record { done = []; wrote = wrote-nil text out m h; whole = refl }
 
-  module _ {end : List ℕ} {r left c : ℕ} {rest : List (List Piece)} {ends : List Piece} (p : Writing text out m end r left rest ends)
-      (xs later : List (List Piece)) (k : c ≡ min 257 (length xs)) (e : rest ≡ across xs later) where
-    digits : Split xs later left c
-    digits = split xs later left c k (p .small) (rw e at (p .within))
+  -- a turn of the loop: the low digit is that of the next piece
+  pub writing-turn : {end next : List ℕ} {r w left d q : ℕ} {z : Size} (rest x later : Numbered) → Writing text out m end r (rest .nth left) ends →
+      rest ≡ numbering .beside x later → z ≡ x .size → d ≡ lowOf left (z .count) → q ≡ highOf left (z .count) →
+      Wrote text end r next w (x .nth d) → Writing text out m next w (later .nth q) ends
+  writing-turn {left = left} {d = d} {q = q} rest x later p e s low high w =
+      let digits : rest .nth left ≡ x .nth d ++ later .nth q = rw (e, low, high, s) in
+      record {
+        done = p .done ++ x .nth d;
+        wrote = wrote-then text (p .wrote) w;
+        whole = append-assoc (p .done) (x .nth d) (later .nth q) ∙ ap (λ (l : List Piece). p .done ++ l) (sym digits) ∙ p .whole;
+      }
 
-    writing-asks : {vars : List ℕ} {n : ℕ} {sizes : List ℕ} {d : ℕ} → Known text vars n sizes → length text ≤ 65535 →
-        (0 < c → d ≡ left % c) → Asked text vars n sizes xs d end r
-    writing-asks known short low =
-        rw (low (digits .positive))
-        (record {
-          known = known;
-          short = short;
-          small = digits .lowSmall;
-          within = digits .low;
-          room = rw (p .wrote .size) (p .wrote .fits);
-        })
-
-    writing-more : {next : List ℕ} {w d q : ℕ} → (0 < c → d ≡ left % c) → (0 < c → q ≡ left / c) → Wrote text end r next w (getD xs d []) →
-        Writing text out m next w q later ends
-    writing-more low high w =
-        let l = low (digits .positive) in
-        let h = high (digits .positive) in
-        rw h
-        (record {
-          done = p .done ++ getD xs (left % c) [];
-          wrote = wrote-then text (p .wrote) (rw l at w);
-          number =
-              append-assoc (p .done) (getD xs (left % c) []) (getD later (left / c) [])
-              ∙ ap (λ (l : List Piece). p .done ++ l) (sym (digits .whole) ∙ ap (λ (l : List (List Piece)). getD l left []) (sym e))
-              ∙ p .number;
-          within = digits .high;
-          small = digits .highSmall;
-        })
-
-    -- a turn of the loop: the next piece is asked for, and written
-    pub writing-turn : {vars : List ℕ} {n : ℕ} {sizes : List ℕ} {next : List ℕ} {w d q : ℕ} → Known text vars n sizes → length text ≤ 65535 →
-        (0 < c → d ≡ left % c) → (0 < c → q ≡ left / c) → (Asked text vars n sizes xs d end r → Wrote text end r next w (getD xs d [])) →
-        Writing text out m next w q later ends
-    writing-turn known short low high f = writing-more low high (f (writing-asks known short low))
-
-  pub writing-all : {end : List ℕ} {r left : ℕ} {rest : List (List Piece)} {ends : List Piece} → Writing text out m end r left rest ends →
-      rest ≡ [] ∷ [] → Wrote text out m end r ends
-  writing-all {end} {r} {left} {rest} {ends} p e =
-      let z : left ≡ 0 = omega (arith, rw e at (p .within)) in
-      let q : p .done ≡ ends = sym (append-nil (p .done)) ∙ ap (λ (l : List Piece). p .done ++ l) (rw (e, z)) ∙ p .number in
+  pub writing-all : {end : List ℕ} {r left : ℕ} (rest : Numbered) → Writing text out m end r (rest .nth left) ends → rest ≡ numbering .empty →
+      Wrote text out m end r ends
+  writing-all {left = left} rest p e =
+      let q : p .done ≡ ends = sym (append-nil (p .done)) ∙ ap (λ (l : List Piece). p .done ++ l) (rw e) ∙ p .whole in
       rw (← q) (p .wrote)
 
 -- ---- a loop that chooses: the number among what is left
 
-pub record Choosing (left : ℕ) (rest : List (List Piece)) (ends : List Piece) : Type 0 where
-  pub small : left < 257
-  pub within : left < length rest
-  pub same : getD rest left [] ≡ ends
+module _ (f : List ℕ → Numbered) (left : ℕ) where
+  nth-eq : {a b : Numbered} → a ≡ b → a .nth left ≡ b .nth left
+  nth-eq e = ap (λ (x : Numbered). x .nth left) e
 
-module _ {left c : ℕ} {rest : List (List Piece)} {ends : List Piece} (p : Choosing left rest ends)
-    (xs later : List (List Piece)) (k : c ≡ min 257 (length xs)) (e : rest ≡ xs ++ later) where
-  pub choosing-here : left < c → Choosing left xs ends
-  choosing-here h =
-      let f = here xs later left c k h in
-      record { small = p .small; within = f .0; same = sym (f .1) ∙ ap (λ (l : List (List Piece)). getD l left []) (sym e) ∙ p .same }
+  -- what is chosen where there is none
+  nothing : (text : List ℕ) → ofParts numbering f (parts 0 (span text 0 0)) .nth 0 ≡ []
+  unfolding ofParts parts
+  nothing text = refl
 
-  pub choosing-there : c ≤ left → Choosing (left - c) later ends
-  choosing-there h =
-      let f = there xs later left c k h (p .small) (rw e at (p .within)) in
-      record { small = omega (arith, p .small); within = f .0; same = sym (f .1) ∙ ap (λ (l : List (List Piece)). getD l left []) (sym e) ∙ p .same }
+  -- the values of a variable from value k on
+  module _ {ends : List Piece} (text vars : List ℕ) (m k i : ℕ) (p : oneOf numbering f (valuesFrom text vars (m - k) (i + k)) .nth left ≡ ends) where
+    module _ {z : Size} (h : k < m) (o : z ≡ ofParts numbering f (parts 0 (bytesAt text vars (96 + 2 * (i + k)))) .size) where
+      pub value-here : left < z .count → ofParts numbering f (parts 0 (bytesAt text vars (96 + 2 * (i + k)))) .nth left ≡ ends
+      value-here g = sym (nth-eq (values-next numbering f text vars m k i h) ∙ rw (← o, lt-ltb left (z .count) g)) ∙ p
 
-pub choosing-none : {left : ℕ} {rest : List (List Piece)} {ends : List Piece} → Choosing left rest ends → rest ≡ [] → ⊥
-choosing-none p e = not-suc-le-zero (rw e at (p .within))
+      pub value-there : z .count ≤ left → oneOf numbering f (valuesFrom text vars (m - (k + 1)) (i + (k + 1))) .nth (left - z .count) ≡ ends
+      value-there g = sym (nth-eq (values-next numbering f text vars m k i h) ∙ rw (← o, le-ltb left (z .count) g)) ∙ p
 
-pub choosing-last : {left : ℕ} {rest : List (List Piece)} {ends : List Piece} → Choosing left rest ends → (xs : List (List Piece)) →
-    rest ≡ xs ++ [] → Choosing left xs ends
-choosing-last {left} {rest} {ends} p xs e = rw (e ∙ append-nil xs) at p
+    pub value-nowhere : m ≤ k → ofParts numbering f (parts 0 (span text 0 0)) .nth 0 ≡ ends
+    value-nowhere h = nothing text ∙ sym (nth-eq (values-last numbering f text vars m k i h)) ∙ p
 
-pub choosing-chosen : {text : List ℕ} {vs : List Variable} {r : Choice} {xs : List (List Piece)} {d : ℕ} →
-    Choosing (r .digit) (valueChoices vs (span text (r .start) (r .end))) (getD xs d []) → Chosen text vs r xs d
-choosing-chosen p = record { small = p .small; within = p .within; same = p .same }
+  -- the alternatives from i on, the first of them to before the comma or end at j
+  module _ {ends : List Piece} (text : List ℕ) (a e : ℕ) (s : List ℕ) (w : s ≡ span text a e) (i j : ℕ)
+      (at : j ≡ i + before (code ",") 0 (drop i s)) (b : j ≤ length s) (p : oneOf numbering f (alternatives (drop i s)) .nth left ≡ ends)
+      {z : Size} (o : z ≡ ofParts numbering f (parts 0 (span text (a + i) (a + j))) .size) where
+    pub alternative-here : left < z .count → ofParts numbering f (parts 0 (span text (a + i) (a + j))) .nth left ≡ ends
+    alternative-here g = sym (nth-eq (alternative-first numbering f text a e s w i j at b) ∙ rw (← o, lt-ltb left (z .count) g)) ∙ p
 
--- the chosen expansion is written for the one that was asked
-pub chosen-writes : {text : List ℕ} {vs : List Variable} {c : Choice} {vars sizes out end : List ℕ} {n k m d w : ℕ} (xs ys : List (List Piece)) →
-    xs ≡ ys → Asked text vars n sizes xs d out m → Known text vars k sizes → Chosen text vs c ys d →
-    (Asked text vars k sizes (valueChoices vs (span text (c .start) (c .end))) (c .digit) out m →
-    Wrote text out m end w (getD (valueChoices vs (span text (c .start) (c .end))) (c .digit) [])) →
-    Wrote text out m end w (getD xs d [])
-chosen-writes xs ys e q known p f =
-    rw (e, ← p .same) (f (record { known = known; short = q .short; small = p .small; within = p .within; room = q .room }))
+    pub alternative-there : j < length s → z .count ≤ left → oneOf numbering f (alternatives (drop (j + 1) s)) .nth (left - z .count) ≡ ends
+    alternative-there h g = sym (nth-eq (alternative-next numbering f text a e s w i j at b h) ∙ rw (← o, le-ltb left (z .count) g)) ∙ p
+
+    pub alternative-nowhere : length s ≤ j → z .count ≤ left → ofParts numbering f (parts 0 (span text 0 0)) .nth 0 ≡ ends
+    alternative-nowhere h g = nothing text ∙ sym (nth-eq (alternative-end numbering f text a e s w i j at b h) ∙ rw (← o, le-ltb left (z .count) g)) ∙ p
 
 -- ---- a variable that is used, by its number
 
@@ -213,8 +159,18 @@ module _ (text vars : List ℕ) (n r a e : ℕ) (h : r ≡ numberOf text vars (m
   pub named-le : r ≤ min 32 n
   named-le = omega (arith, number-le text vars (span text a e) (min 32 n))
 
-  pub named-choices : (p : PartRead) → p ≡ Use a e → partChoices (env text vars n) (seenPart text p) ≡ ofNumber listing text vars r
-  named-choices p k = rw (k, h) (number-of text vars (span text a e) listing (min 32 n))
+  module _ (table : List ℕ) (d : ℕ) (p : PartRead) (k : p ≡ Use a e) where
+    named-by : partBy text vars n table (seenPart text p) .nth d ≡ byNumber text vars table r .nth d
+    named-by = rw (k, h) (ap (λ (x : Numbered). x .nth d) (name-number text vars table (min 32 n) (span text a e)))
+
+    pub named-none : r ≡ 0 → partBy text vars n table (seenPart text p) .nth d ≡ []
+    named-none z = named-by ∙ rw z
+
+    pub named-some : 0 < r → partBy text vars n table (seenPart text p) .nth d ≡ oneBy text vars (r - 1) table (valuesOf text vars (r - 1)) .nth d
+    named-some z =
+        let i : r ≡ suc (r - 1) = omega arith in
+        let b : min 32 (r - 1) ≡ r - 1 = omega (arith, named-le) in
+        named-by ∙ rw b (ap (λ (w : ℕ). byNumber text vars table w .nth d) i)
 
 -- ---- an item, as the code reads it
 

@@ -15,17 +15,16 @@ use scan::span;
 use variables::named;
 ghost use mathlib.Core.Path.{_≡_};
 ghost use mathlib.Core.List.{List, _∷_, []};
-ghost use Prim.Native.Nat.{ℕ, _+_, _/_, _%_, _≤_, _<_};
-ghost use lib.ListN.{length, getD};
-ghost use Rattle.scan.specs.Bytes.{span};
+ghost use Prim.Native.Nat.{ℕ, _+_, _≤_, _<_};
+ghost use lib.ListN.{length};
+ghost use Rattle.scan.specs.Bytes.{span, if_then_else_};
 ghost use Rattle.pattern.specs.Items.{alternatives};
 ghost use Rattle.pattern.specs.Places.{itemAt};
-ghost use Rattle.pattern.specs.Expansions.{expansions, listing};
 ghost use Rattle.pattern.specs.Codes.{decode};
 ghost use Rattle.pattern.specs.Reads.{codeIn, seenPart};
-ghost use Rattle.pattern.specs.Table.{env, ofNumber};
-ghost use Rattle.sizes.specs.Sizes.{Known, partChoices, valueChoices, oneChoices, itemChoices};
-ghost use Rattle.expand.specs.Write.{Asked, Wrote, Chosen, Written};
+ghost use Rattle.pattern.specs.Table.{valuesOf};
+ghost use Rattle.sizes.specs.Numbered.{lowOf, highOf, partBy, valueBy, oneBy, itemBy, patternBy};
+ghost use Rattle.expand.specs.Write.{textFits, Asked, Wrote, Written};
 
 // A value or alternative, and the number of one of its expansions.
 pub struct Choice {
@@ -36,7 +35,8 @@ pub struct Choice {
 
 // A code at a place of the buffer, if there is room; the next place.
 fn push(out: &mut [u32], m: usize, code: u32) -> usize
-    ensures { λ r. ⌜ (m ≤ length (now (out .entry)) → (text : List ℕ) → Wrote text (now (out .entry)) m (now (out .exit)) r (decode text code ∷ [])) ⌝ }
+    requires { ⌜ m ≤ length (now out) ⌝ }
+    ensures { λ r. ⌜ ((text : List ℕ) → Wrote text (now (out .entry)) m (now (out .exit)) r (decode text code ∷ [])) ⌝ }
 {
     if m < out.len() {
         out[m] = code;
@@ -47,7 +47,7 @@ fn push(out: &mut [u32], m: usize, code: u32) -> usize
 
 // The low digit of a number to base c, and what is left of it.
 fn low(d: usize, c: usize) -> usize
-    ensures { λ r. ⌜ (0 < c → r ≡ d % c) ⌝ }
+    ensures { λ r. ⌜ r ≡ lowOf d c ⌝ }
 {
     if c == 0 {
         return 0;
@@ -56,7 +56,7 @@ fn low(d: usize, c: usize) -> usize
 }
 
 fn high(d: usize, c: usize) -> usize
-    ensures { λ r. ⌜ (0 < c → r ≡ d / c) ⌝ }
+    ensures { λ r. ⌜ r ≡ highOf d c ⌝ }
 {
     if c == 0 {
         return 0;
@@ -67,8 +67,8 @@ fn high(d: usize, c: usize) -> usize
 // The value of the variable w that holds expansion d of the variable.
 fn pick_value(text: &[u8], vars: &[usize; 1120], w: usize, sizes: &[usize; 132], d: usize) -> Choice
     requires { ⌜ w < 32 ⌝ }
-    ensures { λ r. ⌜ (Known (now (text .entry)) (now (vars .entry)) w (now (sizes .entry)) → d < 257 → d < length (ofNumber listing (now (text .entry)) (now (vars .entry)) (w + 1)) →
-        Chosen (now (text .entry)) (env (now (text .entry)) (now (vars .entry)) w) r (ofNumber listing (now (text .entry)) (now (vars .entry)) (w + 1)) d) ⌝ }
+    ensures { λ r. ⌜ valueBy (now (text .entry)) (now (vars .entry)) w (now (sizes .entry)) (span (now (text .entry)) (r .start) (r .end)) .nth (r .digit)
+        ≡ oneBy (now (text .entry)) (now (vars .entry)) w (now (sizes .entry)) (valuesOf (now (text .entry)) (now (vars .entry)) w) .nth d ⌝ }
 {
     let m = least(16, vars[64 + w]);
     let mut left = d;
@@ -106,10 +106,8 @@ fn pick_alternative(
     e: usize,
     d: usize,
 ) -> Choice
-    ensures { λ r. ⌜ (Known (now (text .entry)) (now (vars .entry)) n (now (sizes .entry)) → d < 257 →
-        d < length (oneChoices (env (now (text .entry)) (now (vars .entry)) n) (alternatives (span (now (text .entry)) a e))) →
-        Chosen (now (text .entry)) (env (now (text .entry)) (now (vars .entry)) n) r
-        (oneChoices (env (now (text .entry)) (now (vars .entry)) n) (alternatives (span (now (text .entry)) a e))) d) ⌝ }
+    ensures { λ r. ⌜ valueBy (now (text .entry)) (now (vars .entry)) n (now (sizes .entry)) (span (now (text .entry)) (r .start) (r .end)) .nth (r .digit)
+        ≡ oneBy (now (text .entry)) (now (vars .entry)) n (now (sizes .entry)) (alternatives (span (now (text .entry)) a e)) .nth d ⌝ }
 {
     let s = span(text, a, e);
     let mut left = d;
@@ -119,19 +117,22 @@ fn pick_alternative(
         let start = a + i;
         let end = a + j;
         let size = value_size(text, vars, n, sizes, start, end);
-        let c = size.count;
-        let found = Choice {
-            start: start,
-            end: end,
-            digit: left,
-        };
+        let count = size.count;
+        if left < count {
+            return Choice {
+                start: start,
+                end: end,
+                digit: left,
+            };
+        }
         if s.len() <= j {
-            return found;
+            return Choice {
+                start: 0,
+                end: 0,
+                digit: 0,
+            };
         }
-        if left < c {
-            return found;
-        }
-        left -= c;
+        left -= count;
         i = j + 1;
     }
 }
@@ -147,9 +148,8 @@ fn write_part(
     out: &mut [u32],
     m: usize,
 ) -> usize
-    ensures { λ r. ⌜ (Asked (now (text .entry)) (now (vars .entry)) n (now (sizes .entry)) (partChoices (env (now (text .entry)) (now (vars .entry)) n) (seenPart (now (text .entry)) p)) d (now (out .entry)) m →
-        codeIn p ≤ 65536 + length (now (text .entry)) →
-        Wrote (now (text .entry)) (now (out .entry)) m (now (out .exit)) r (getD (partChoices (env (now (text .entry)) (now (vars .entry)) n) (seenPart (now (text .entry)) p)) d [])) ⌝ }
+    requires { ⌜ Asked (now text) (now out) m × (codeIn p ≤ 65536 + length (now text)) ⌝ }
+    ensures { λ r. ⌜ Wrote (now (text .entry)) (now (out .entry)) m (now (out .exit)) r (partBy (now (text .entry)) (now (vars .entry)) n (now (sizes .entry)) (seenPart (now (text .entry)) p) .nth d) ⌝ }
 {
     match p {
         PartRead::Is(q) => push(out, m, piece_code(q)),
@@ -177,8 +177,8 @@ fn write_value(
     out: &mut [u32],
     m: usize,
 ) -> usize
-    ensures { λ r. ⌜ (Asked (now (text .entry)) (now (vars .entry)) n (now (sizes .entry)) (valueChoices (env (now (text .entry)) (now (vars .entry)) n) (span (now (text .entry)) a e)) d (now (out .entry)) m →
-        Wrote (now (text .entry)) (now (out .entry)) m (now (out .exit)) r (getD (valueChoices (env (now (text .entry)) (now (vars .entry)) n) (span (now (text .entry)) a e)) d [])) ⌝ }
+    requires { ⌜ Asked (now text) (now out) m ⌝ }
+    ensures { λ r. ⌜ Wrote (now (text .entry)) (now (out .entry)) m (now (out .exit)) r (valueBy (now (text .entry)) (now (vars .entry)) n (now (sizes .entry)) (span (now (text .entry)) a e) .nth d) ⌝ }
 {
     let s = span(text, a, e);
     let mut left = d;
@@ -208,8 +208,8 @@ fn write_item(
     out: &mut [u32],
     m: usize,
 ) -> usize
-    ensures { λ r. ⌜ (Asked (now (text .entry)) (now (vars .entry)) n (now (sizes .entry)) (itemChoices (env (now (text .entry)) (now (vars .entry)) n) (itemAt (span (now (text .entry)) a e) at)) d (now (out .entry)) m →
-        Wrote (now (text .entry)) (now (out .entry)) m (now (out .exit)) r (getD (itemChoices (env (now (text .entry)) (now (vars .entry)) n) (itemAt (span (now (text .entry)) a e) at)) d [])) ⌝ }
+    requires { ⌜ Asked (now text) (now out) m ⌝ }
+    ensures { λ r. ⌜ Wrote (now (text .entry)) (now (out .entry)) m (now (out .exit)) r (itemBy (now (text .entry)) (now (vars .entry)) n (now (sizes .entry)) (itemAt (span (now (text .entry)) a e) at) .nth d) ⌝ }
 {
     let i = item_at(text, a, e, at);
     match i {
@@ -224,7 +224,7 @@ fn write_item(
     }
 }
 
-// Expansion d of the pattern from a to before e, as far as there is room; how many codes that is.
+// Expansion d of the pattern from a to before e, as far as there is room; how many codes that is. None of a text too long.
 pub fn write_pattern(
     text: &[u8],
     vars: &[usize; 1120],
@@ -235,10 +235,12 @@ pub fn write_pattern(
     d: usize,
     out: &mut [u32],
 ) -> usize
-    ensures { λ r. ⌜ (Known (now (text .entry)) (now (vars .entry)) n (now (sizes .entry)) → length (now (text .entry)) ≤ 65535 → d < 257 →
-        d < length (expansions (env (now (text .entry)) (now (vars .entry)) n) (span (now (text .entry)) a e)) →
-        Written (now (text .entry)) (now (out .entry)) (now (out .exit)) r (getD (expansions (env (now (text .entry)) (now (vars .entry)) n) (span (now (text .entry)) a e)) d [])) ⌝ }
+    ensures { λ r. ⌜ Written (now (text .entry)) (now (out .entry)) (now (out .exit)) r
+        (if textFits (now (text .entry)) then patternBy (now (text .entry)) (now (vars .entry)) n (now (sizes .entry)) (span (now (text .entry)) a e) .nth d else []) ⌝ }
 {
+    if 65535 < text.len() {
+        return 0;
+    }
     let s = span(text, a, e);
     let mut left = d;
     let mut w = 0;

@@ -8,12 +8,15 @@ use borrow.Author.Tests.{lt-ltb, le-ltb}
 use native.Mathlib.Omega.{arith}
 use Rattle.scan.specs.Bytes.{isEmpty, if_then_else_}
 use Rattle.pattern.specs.Items.{valueForm, valueNames, patternForm, patternNames}
-use Rattle.pattern.specs.Expansions.{Variable, isSet, expansions}
-use Rattle.pattern.specs.Faults.{valueFault, patternFault}
+use Rattle.pattern.specs.Expansions.{Variable, isSet}
+use Rattle.pattern.specs.Faults.{tooLong, valueFault, patternFault}
+use Rattle.pattern.specs.Table.{env}
 use Rattle.sizes.specs.declared.Size.{Size}
-use Rattle.sizes.specs.Sizes.{sizeOf}
+use Rattle.sizes.specs.Sizes.{Known}
+use Rattle.sizes.specs.Numbered.{patternBy}
 use Rattle.sizes.proofs.Laws.{tooMany-size, rooted-size}
-use Rattle.faults.specs.Sized.{sizeFault}
+use Rattle.sizes.proofs.Numbered.{pattern-right}
+use Rattle.faults.specs.Sized.{sizeFault, faultBy}
 
 -- ---- a value
 
@@ -47,30 +50,29 @@ module _ (vs : List Variable) (s : List ℕ) where
 
 -- ---- a pattern
 
-module _ (vs : List Variable) (s : List ℕ) where
-  pattern-long : 1024 < length s → patternFault vs s ≡ 9
-  unfolding patternFault
-  pattern-long h = rw (lt-ltb 1024 (length s) h, patternFault)
+-- under a right table the fault is that of the expansions
+fault-known : (text vars : List ℕ) (n : ℕ) (table : List ℕ) → Known text vars n table → (s : List ℕ) →
+    faultBy text vars n table s ≡ patternFault (env text vars n) s
+unfolding faultBy patternFault sizeFault
+fault-known text vars n table k s =
+    rw (pattern-right k s .size)
+    (go (tooLong s) (patternForm s) (patternNames (isSet (env text vars n)) s) (tooMany-size (env text vars n) s) (rooted-size (env text vars n) s))
+  where
+    go : (l a b : Bool) {c d x y : Bool} → c ≡ x → d ≡ y →
+        _≡_ {A = ℕ} (if l then 9 else if a then (if b then if x then 9 else if y then 0 else 7 else 6) else 7)
+        (elim l as (λ _. ℕ) [ true ↦ 9 | false ↦ elim a as (λ _. ℕ) [ false ↦ 7 | true ↦ elim b as (λ _. ℕ) [ false ↦ 6 | true ↦ elim c as (λ _. ℕ) [ true ↦ 9 | false ↦ elim d as (λ _. ℕ) [ false ↦ 7 | true ↦ 0 ] ] ] ] ])
+    go true a b p q = refl
+    go false false b p q = refl
+    go false true false p q = refl
+    go false true true {c} {d} p q = rw (← p, ← q) (last c d)
+      where
+        last : (c d : Bool) → _≡_ {A = ℕ} (if c then 9 else if d then 0 else 7) (elim c as (λ _. ℕ) [ true ↦ 9 | false ↦ elim d as (λ _. ℕ) [ false ↦ 7 | true ↦ 0 ] ])
+        last true d = refl
+        last false true = refl
+        last false false = refl
 
-  pattern-rest : length s ≤ 1024 →
-      patternFault vs s ≡ (if patternForm s then if patternNames (isSet vs) s then sizeFault (sizeOf (expansions vs s)) else 6 else 7)
-  unfolding patternFault sizeFault
-  pattern-rest h =
-      rw (le-ltb 1024 (length s) h, patternFault)
-      (go (patternForm s) (patternNames (isSet vs) s) (tooMany-size vs s) (rooted-size vs s))
-    where
-      go : (a b : Bool) {c d x y : Bool} → c ≡ x → d ≡ y →
-          _≡_ {A = ℕ}
-          (elim a as (λ _. ℕ) [ false ↦ 7 | true ↦ elim b as (λ _. ℕ) [ false ↦ 6 | true ↦ elim c as (λ _. ℕ) [ true ↦ 9 | false ↦ elim d as (λ _. ℕ) [ false ↦ 7 | true ↦ 0 ] ] ] ])
-          (if a then if b then if x then 9 else if y then 0 else 7 else 6 else 7)
-      go false b p q = refl
-      go true false p q = refl
-      go true true {c} {d} p q = rw (← p, ← q) (last c d)
-        where
-          last : (c d : Bool) → _≡_ {A = ℕ} (elim c as (λ _. ℕ) [ true ↦ 9 | false ↦ elim d as (λ _. ℕ) [ false ↦ 7 | true ↦ 0 ] ]) (if c then 9 else if d then 0 else 7)
-          last true d = refl
-          last false true = refl
-          last false false = refl
+pub faults-known : {text vars : List ℕ} {n : ℕ} {table : List ℕ} → Known text vars n table → faultBy text vars n table ≡ patternFault (env text vars n)
+faults-known {text} {vars} {n} {table} k = λ i s. fault-known text vars n table k s i
 
 -- ---- as the code finds them, t being the bytes of s
 
@@ -95,19 +97,22 @@ module _ (vs : List Variable) (s t : List ℕ) (e : t ≡ s) where
       pub value-bad : {f : Bool} → f ≡ false → f ≡ valueForm s → 7 ≡ valueFault vs s
       value-bad y f = rw (rest, sym f ∙ y)
 
-  pub pattern-too-long : 1024 < length t → 9 ≡ patternFault vs s
-  pattern-too-long h = sym (pattern-long vs s (rw (← e) h))
+module _ (text vars : List ℕ) (n : ℕ) (table s t : List ℕ) (e : t ≡ s) where
+  pub pattern-too-long : 1024 < length t → 9 ≡ faultBy text vars n table s
+  unfolding faultBy
+  pattern-too-long h = rw (← e) (rw (lt-ltb 1024 (length t) h, faultBy))
 
   module _ (short : length t ≤ 1024) where
-    all : patternFault vs s ≡ (if patternForm s then if patternNames (isSet vs) s then sizeFault (sizeOf (expansions vs s)) else 6 else 7)
-    all = pattern-rest vs s (rw (← e) short)
+    all : faultBy text vars n table s ≡ (if patternForm s then (if patternNames (isSet (env text vars n)) s then sizeFault (patternBy text vars n table s .size) else 6) else 7)
+    unfolding faultBy
+    all = let h : length s ≤ 1024 = rw (← e) short in rw (le-ltb 1024 (length s) h, faultBy)
 
-    pub pattern-sized : {f n : Bool} {z : Size} {r : ℕ} → f ≡ true → f ≡ patternForm s → n ≡ true → n ≡ patternNames (isSet vs) s →
-        z ≡ sizeOf (expansions vs s) → r ≡ sizeFault z → r ≡ patternFault vs s
-    pattern-sized y f x n m h = rw (all, sym f ∙ y, sym n ∙ x) (h ∙ ap sizeFault m)
+    pub pattern-sized : {f b : Bool} {z : Size} {r : ℕ} → f ≡ true → f ≡ patternForm s → b ≡ true → b ≡ patternNames (isSet (env text vars n)) s →
+        z ≡ patternBy text vars n table s .size → r ≡ sizeFault z → r ≡ faultBy text vars n table s
+    pattern-sized y f x b m h = rw (all, sym f ∙ y, sym b ∙ x) (h ∙ ap sizeFault m)
 
-    pub pattern-unset : {f n : Bool} → f ≡ true → f ≡ patternForm s → n ≡ false → n ≡ patternNames (isSet vs) s → 6 ≡ patternFault vs s
-    pattern-unset y f x n = rw (all, sym f ∙ y, sym n ∙ x)
+    pub pattern-unset : {f b : Bool} → f ≡ true → f ≡ patternForm s → b ≡ false → b ≡ patternNames (isSet (env text vars n)) s → 6 ≡ faultBy text vars n table s
+    pattern-unset y f x b = rw (all, sym f ∙ y, sym b ∙ x)
 
-    pub pattern-bad : {f : Bool} → f ≡ false → f ≡ patternForm s → 7 ≡ patternFault vs s
+    pub pattern-bad : {f : Bool} → f ≡ false → f ≡ patternForm s → 7 ≡ faultBy text vars n table s
     pattern-bad y f = rw (all, sym f ∙ y)

@@ -8,10 +8,9 @@ use scan::span;
 use sizes::Size;
 ghost use mathlib.Core.Path.{_≡_};
 ghost use Rattle.scan.specs.Bytes.{span};
-ghost use Rattle.pattern.specs.Faults.{valueFault, patternFault};
+ghost use Rattle.pattern.specs.Faults.{valueFault};
 ghost use Rattle.pattern.specs.Table.{env};
-ghost use Rattle.sizes.specs.Sizes.{Known};
-ghost use Rattle.faults.specs.Sized.{sizeFault};
+ghost use Rattle.faults.specs.Sized.{sizeFault, faultBy};
 
 // The fault of the value from a to before e under the first n variables.
 pub fn value_fault(text: &[u8], vars: &[usize; 1120], n: usize, a: usize, e: usize) -> u8
@@ -46,7 +45,7 @@ fn size_fault(z: Size) -> u8
     7
 }
 
-// The fault of the pattern from a to before e under the first n variables, whose sizes are known.
+// The fault of the pattern from a to before e under the first n variables by a table of their sizes.
 pub fn pattern_fault(
     text: &[u8],
     vars: &[usize; 1120],
@@ -55,7 +54,7 @@ pub fn pattern_fault(
     a: usize,
     e: usize,
 ) -> u8
-    ensures { λ r. ⌜ (Known (now (text .entry)) (now (vars .entry)) n (now (sizes .entry)) → r ≡ patternFault (env (now (text .entry)) (now (vars .entry)) n) (span (now (text .entry)) a e)) ⌝ }
+    ensures { λ r. ⌜ r ≡ faultBy (now (text .entry)) (now (vars .entry)) n (now (sizes .entry)) (span (now (text .entry)) a e) ⌝ }
 {
     let s = span(text, a, e);
     if 1024 < s.len() {

@@ -1,117 +1,111 @@
--- Every expansion tried by its number, and what a pattern without fault is known to keep.
-use Prim.Native.Nat.{ℕ, _+_, _≤_, _<_}
-use mathlib.Core.Path.{_≡_, refl, sym, ap, _∙_}
-use mathlib.Core.List.{List, [], _∷_}
+-- Every expansion tried by its number; a pattern without fault under a right table of sizes.
+use Prim.Native.Nat.{ℕ, zero, suc, _+_, _≤_, _<_}
+use mathlib.Core.Path.{_≡_, refl, sym, ap, ap₂, _∙_}
+use mathlib.Core.List.{List, [], _∷_, map}
 use mathlib.Core.Bool.{Bool, true, false, _&&_, _||_, or-assoc, or-false}
+use native.Mathlib.Nat.{not-suc-le-zero}
 use native.Mathlib.Numerals.{add-one}
 use native.Mathlib.Omega.{arith}
-use lib.ListN.{length, getD, drop, drop-of-length-le}
-use lib.Seq.{drop-cons}
+use lib.ListN.{length, getD, take}
+use lib.Seq.{take-all}
 use lib.Dec.{eqb, ltb}
-use borrow.Author.Tests.{leb-true, eq-eqb, ltb-false}
+use borrow.Author.Tests.{eq-eqb, eqb-true, eqb-false, ltb-false}
 use Rattle.scan.specs.Bytes.{every, some, if_then_else_}
 use Rattle.pattern.specs.Pieces.{Piece}
 use Rattle.pattern.specs.Items.{patternForm, patternNames}
+use Rattle.pattern.specs.Codes.{decode}
 use Rattle.pattern.specs.Expansions.{Variable, isSet, expansions, count, longest, isLiteral, joined}
 use Rattle.pattern.specs.Faults.{patternFault, tooLong, tooMany, rooted}
+use Rattle.pattern.specs.Table.{env}
+use Rattle.sizes.specs.Sizes.{Known}
+use Rattle.sizes.specs.Numbered.{Numbered, patternBy}
 use Rattle.sizes.proofs.Choices.{count-length}
+use Rattle.sizes.proofs.Laws.{size-count}
+use Rattle.sizes.proofs.Numbered.{pattern-right}
+use Rattle.expand.specs.Write.{textFits, Written}
 use Rattle.matcher.specs.Match.{matches, matchesSome, matchesExactly}
 use Rattle.matcher.specs.Walk.{pathFits}
-use Rattle.matcher.proofs.Laws.{and-l, and-r}
+use Rattle.matcher.proofs.Laws.{and-l, and-r, or-r}
 use Rattle.front.specs.Front.{beginning, front}
 use Rattle.front.proofs.Laws.{front-none, front-none-exactly}
 use Rattle.glob.specs.declared.Matched.{Matched}
-use Rattle.glob.specs.Glob.{textFits, noMatch, matchedOf, matchedBy, Within}
+use Rattle.glob.specs.Glob.{noMatch, matchedOf, matchedBy, someBelow, matchedAt, matchedBelow, matchedAll, matchedIn}
 
 -- ---- one expansion
 
-pub expansion-matched : {literal found : Bool} {x written left : List Piece} (path : List ℕ) → pathFits path ≡ true → written ≡ x →
-    literal ≡ every isLiteral written → left ≡ joined written → found ≡ (pathFits path && matches left path) →
-    _≡_ {A = Matched} (record { some = found; exact = literal && found }) (matchedBy x path)
+pub expansion-matched : (text path : List ℕ) (x : List Piece) {out end : List ℕ} {r : ℕ} {literal found : Bool} {left : List Piece} →
+    (textFits text && pathFits path) ≡ true → Written text out end r (if textFits text then x else []) → length out ≡ 1024 →
+    literal ≡ every isLiteral (map (decode text) (take r end)) → left ≡ joined (map (decode text) (take r end)) →
+    found ≡ (pathFits path && matches left path) → _≡_ {A = Matched} (record { some = found; exact = literal && found }) (matchedBy (take 1024 x) path)
 unfolding matchedBy
-expansion-matched {literal} {found} {x} {written} {left} path fits w l j f =
-    let g : found ≡ matches (joined x) path = f ∙ rw (fits, j, w) in
-    let k : literal ≡ every isLiteral x = l ∙ ap (every isLiteral) w in
-    rw (g, k)
+expansion-matched text path x {end = end} {r = r} fits w room l j f =
+    let v : map (decode text) (take r end) ≡ take 1024 x = w .all ∙ rw (room, and-l (textFits text) (pathFits path) fits) in
+    rw (l, f, and-r (textFits text) (pathFits path) fits, j, v)
 
 -- ---- all expansions, by number
 
--- some element from a place on is the one at the place, or one behind it
-pub some-at : {A : Type 0} (p : A → Bool) (xs : List A) (d : ℕ) (z : A) → d < length xs → some p (drop d xs) ≡ (p (getD xs d z) || some p (drop (d + 1) xs))
-unfolding some
-some-at p xs d z h = rw add-one (ap (some p) (drop-cons xs d z h))
-
-pub some-past : {A : Type 0} (p : A → Bool) (xs : List A) (d : ℕ) → length xs ≤ d → some p (drop d xs) ≡ false
-unfolding some
-some-past p xs d h = ap (some p) (drop-of-length-le xs h)
-
-module _ (path : List ℕ) where
-  abbrev pub hit : List Piece → Bool
-  hit x = matches (joined x) path
-
-  abbrev pub hitExactly : List Piece → Bool
-  hitExactly x = every isLiteral x && matches (joined x) path
-
-  abbrev pub byAll : List (List Piece) → Matched
-  byAll xs = record { some = some hit xs; exact = some hitExactly xs }
-
-  exact-hits : (xs : List (List Piece)) → some hitExactly xs ≡ true → some hit xs ≡ true
-  unfolding some
-  exact-hits [] e = e
-  exact-hits (x ∷ xs) e = go (every isLiteral x) (hit x) (exact-hits xs) e
-    where
-      go : (l h : Bool) → (some hitExactly xs ≡ true → some hit xs ≡ true) → ((l && h) || some hitExactly xs) ≡ true → (h || some hit xs) ≡ true
-      go l true f q = refl
-      go true false f q = f q
-      go false false f q = f q
+below-at : (p : ℕ → Bool) (k d : ℕ) → d < k → p d ≡ true → someBelow p k ≡ true
+unfolding someBelow
+below-at p zero d h e = absurd (not-suc-le-zero h)
+below-at p (suc k) d h e = go (eqb d k) refl (below-at p k d)
+  where
+    go : (x : Bool) → eqb d k ≡ x → (d < k → p d ≡ true → someBelow p k ≡ true) → (someBelow p k || p k) ≡ true
+    go true q f = or-r (someBelow p k) (p k) (ap p (sym (eqb-true d k q)) ∙ e)
+    go false q f = let n : d ≡ k → ⊥ = eqb-false d k q in ap (λ (z : Bool). z || p k) (f (omega arith) e)
 
 -- the first d expansions were tried: one of them matches, or none, and none exactly
-pub record Tried (path : List ℕ) (xs : List (List Piece)) (d : ℕ) (found : Bool) : Type 0 where
-  pub hits : (found || some (hit path) (drop d xs)) ≡ some (hit path) xs
-  pub exactly : some (hitExactly path) (drop d xs) ≡ some (hitExactly path) xs
+pub record Tried (a : Numbered) (path : List ℕ) (d : ℕ) (found : Bool) : Type 0 where
+  pub hits : found ≡ matchedBelow a path d .some
+  pub exactly : false ≡ matchedBelow a path d .exact
 
-module _ (path : List ℕ) (xs : List (List Piece)) where
-  pub tried-none : Tried path xs 0 false
+module _ (a : Numbered) (path : List ℕ) where
+  pub tried-none : Tried a path 0 false
+  unfolding someBelow
   tried-none = record { hits = refl; exactly = refl }
 
-  module _ {d : ℕ} {found : Bool} {m : Matched} (p : Tried path xs d found) (h : d < length xs) (e : m ≡ matchedBy (getD xs d []) path) where
-    by-hit : m .some ≡ hit path (getD xs d [])
-    unfolding matchedBy
-    by-hit = ap (λ (z : Matched). z .some) e
+  exact-hits : (x : List Piece) → matchedBy x path .exact ≡ true → matchedBy x path .some ≡ true
+  unfolding matchedBy
+  exact-hits x q = and-r (every isLiteral x) (matches (joined x) path) q
 
-    by-exact : m .exact ≡ hitExactly path (getD xs d [])
-    unfolding matchedBy
-    by-exact = ap (λ (z : Matched). z .exact) e
+  module _ {d : ℕ} {m : Matched} (e : m ≡ matchedAt a path d) where
+    pub tried-more : {found : Bool} → Tried a path d found → m .exact ≡ false → Tried a path (d + 1) (found || m .some)
+    unfolding someBelow
+    tried-more p k =
+        rw add-one
+        (record {
+          hits = ap₂ (λ (x y : Bool). x || y) (p .hits) (ap (λ (z : Matched). z .some) e);
+          exactly = ap₂ (λ (x y : Bool). x || y) (p .exactly) (sym k ∙ ap (λ (z : Matched). z .exact) e);
+        })
 
-    pub tried-more : m .exact ≡ false → Tried path xs (d + 1) (found || m .some)
-    tried-more k =
-        let x = getD xs d [] in
-        let q : hitExactly path x ≡ false = sym by-exact ∙ k in
-        record {
-          hits =
-              or-assoc found (m .some) (some (hit path) (drop (d + 1) xs))
-              ∙ ap (λ (z : Bool). found || z) (ap (λ (z : Bool). z || some (hit path) (drop (d + 1) xs)) by-hit ∙ sym (some-at (hit path) xs d [] h))
-              ∙ p .hits;
-          exactly = ap (λ (z : Bool). z || some (hitExactly path) (drop (d + 1) xs)) (sym q) ∙ sym (some-at (hitExactly path) xs d [] h) ∙ p .exactly;
-        }
+    pub tried-found : (k : ℕ) → d < k → m .exact ≡ true → _≡_ {A = Matched} (record { some = true; exact = true }) (matchedBelow a path k)
+    tried-found k h q =
+        let x : matchedAt a path d .exact ≡ true = ap (λ (z : Matched). z .exact) (sym e) ∙ q in
+        rw (below-at (λ i. matchedAt a path i .exact) k d h x, below-at (λ i. matchedAt a path i .some) k d h (exact-hits (take 1024 (a .nth d)) x))
 
-    pub tried-found : m .exact ≡ true → _≡_ {A = Matched} (record { some = true; exact = true }) (byAll path xs)
-    tried-found k =
-        let q : hitExactly path (getD xs d []) ≡ true = sym by-exact ∙ k in
-        let all : some (hitExactly path) xs ≡ true =
-        sym (p .exactly) ∙ some-at (hitExactly path) xs d [] h ∙ ap (λ (z : Bool). z || some (hitExactly path) (drop (d + 1) xs)) q in
-        rw (all, exact-hits path xs all)
+  pub tried-all : {d : ℕ} {found : Bool} → Tried a path d found → (k : ℕ) → d ≡ k → _≡_ {A = Matched} (record { some = found; exact = false }) (matchedBelow a path k)
+  tried-all p k e = rw (← e, p .hits, p .exactly)
 
-  pub tried-all : {d : ℕ} {found : Bool} → Tried path xs d found → length xs ≤ d → _≡_ {A = Matched} (record { some = found; exact = false }) (byAll path xs)
-  tried-all {d} {found} p h =
-      let a : found ≡ some (hit path) xs = sym (or-false found) ∙ ap (λ (z : Bool). found || z) (sym (some-past (hit path) xs d h)) ∙ p .hits in
-      let b : false ≡ some (hitExactly path) xs = sym (some-past (hitExactly path) xs d h) ∙ p .exactly in
-      rw (← a, ← b)
+-- ---- by number or by the list
 
-pub by-all : (vs : List Variable) (pattern path : List ℕ) →
-    byAll path (expansions vs pattern) ≡ record { some = matchesSome vs pattern path; exact = matchesExactly vs pattern path }
-unfolding matchesSome matchesExactly
-by-all vs pattern path = refl
+first-below : (p : ℕ → Bool) (n : ℕ) → someBelow p (suc n) ≡ (p 0 || someBelow (λ d. p (suc d)) n)
+unfolding someBelow
+first-below p zero = sym (or-false (p 0))
+first-below p (suc n) =
+    ap (λ (z : Bool). z || p (suc n)) (first-below p n) ∙ or-assoc (p 0) (someBelow (λ d. p (suc d)) n) (p (suc n))
+
+some-below : {A : Type 0} (p : A → Bool) (xs : List A) (z : A) (q : ℕ → Bool) → ((d : ℕ) → d < length xs → q d ≡ p (getD xs d z)) →
+    someBelow q (length xs) ≡ some p xs
+unfolding some someBelow
+some-below p [] z q e = refl
+some-below p (x ∷ xs) z q e =
+    first-below q (length xs) ∙ ap₂ (λ (a b : Bool). a || b) (e 0 (omega arith)) (some-below p xs z (λ d. q (suc d)) (λ d h. e (suc d) (omega arith)))
+
+-- an expansion is no longer than the longest
+length-longest : (xs : List (List Piece)) (d : ℕ) → length (getD xs d []) ≤ longest xs
+unfolding longest
+length-longest [] d = omega arith
+length-longest (x ∷ xs) zero = omega arith
+length-longest (x ∷ xs) (suc d) = omega (arith, length-longest xs d)
 
 -- ---- a pattern without fault
 
@@ -139,28 +133,39 @@ sized vs s e = go (ltb 256 (count vs s)) (ltb 1024 (longest (expansions vs s))) 
     go false true p q r = absurd (let z : _≡_ {A = ℕ} 0 1 = cc in omega arith)
     go false false p q r = (omega (arith, ltb-false 256 (count vs s) p, count-length vs s), omega (arith, ltb-false 1024 (longest (expansions vs s)) q))
 
-module _ (text path : List ℕ) (vs : List Variable) (s : List ℕ) where
-  within-sizes : (textFits text && pathFits path) ≡ true → patternFault vs s ≡ 0 → Within text (expansions vs s) path
-  within-sizes h e =
-      record {
-        short = leb-true (length text) 65535 (and-l (textFits text) (pathFits path) h);
-        fits = and-r (textFits text) (pathFits path) h;
-        few = sized vs s (faultless vs s e) .0;
-        room = sized vs s (faultless vs s e) .1;
-      }
+module _ {text vars : List ℕ} {n : ℕ} {table : List ℕ} (known : Known text vars n table) (pattern path : List ℕ)
+    (good : patternFault (env text vars n) pattern ≡ 0) where
+  within : (length (expansions (env text vars n) pattern) ≤ 256) × (longest (expansions (env text vars n) pattern) ≤ 1024)
+  within = sized (env text vars n) pattern (faultless (env text vars n) pattern good)
 
-  pub matched-good : {r : Matched} → (textFits text && pathFits path) ≡ true → patternFault vs s ≡ 0 →
-      (Within text (expansions vs s) path → r ≡ record { some = matchesSome vs s path; exact = matchesExactly vs s path }) → r ≡ matchedOf text vs s path
-  unfolding matchedOf
-  matched-good h e f = f (within-sizes h e) ∙ rw (h, eq-eqb (patternFault vs s) 0 e)
+  same-nth : (d : ℕ) → d < length (expansions (env text vars n) pattern) →
+      take 1024 (patternBy text vars n table pattern .nth d) ≡ getD (expansions (env text vars n) pattern) d []
+  same-nth d h =
+      let xs = expansions (env text vars n) pattern in
+      ap (take 1024) (pattern-right known pattern .nth d (omega (arith, within .0)) h)
+      ∙ take-all 1024 (getD xs d []) (omega (arith, length-longest xs d, within .1))
 
-  -- a path that does not begin with the front, whether or not the pattern is good
-  pub matched-front : {fits : Bool} → fits ≡ beginning (front s) path → fits ≡ false → noMatch ≡ matchedOf text vs s path
-  unfolding matchedOf
-  matched-front {fits} e q =
-      let h : beginning (front s) path ≡ false = sym e ∙ q in
-      rw (front-none vs s path h, front-none-exactly vs s path h) (go (textFits text && pathFits path && eqb (patternFault vs s) 0))
+  same-all : matchedAll (patternBy text vars n table pattern) path ≡
+      record { some = matchesSome (env text vars n) pattern path; exact = matchesExactly (env text vars n) pattern path }
+  unfolding matchesSome matchesExactly matchedBy
+  same-all =
+      let xs = expansions (env text vars n) pattern in
+      let a = patternBy text vars n table pattern in
+      let k : a .size .count ≡ length xs = omega (arith, size-count xs (pattern-right known pattern .size), within .0) in
+      let s = some-below (λ x. matchedBy x path .some) xs [] (λ d. matchedAt a path d .some) (λ d h. ap (λ (x : List Piece). matchedBy x path .some) (same-nth d h)) in
+      let e = some-below (λ x. matchedBy x path .exact) xs [] (λ d. matchedAt a path d .exact) (λ d h. ap (λ (x : List Piece). matchedBy x path .exact) (same-nth d h)) in
+      rw (k, s, e)
+
+  -- a path that does not begin with the front is matched by no expansion
+  pub matched-known : matchedIn text vars n table pattern path ≡ matchedOf text (env text vars n) pattern path
+  unfolding matchedIn matchedOf
+  matched-known =
+      rw (eq-eqb (patternFault (env text vars n) pattern) 0 good, same-all)
+      (go (textFits text) (pathFits path) (beginning (front pattern) path) _
+      (λ e. rw (front-none (env text vars n) pattern path e, front-none-exactly (env text vars n) pattern path e)))
     where
-      go : (t : Bool) → noMatch ≡ (if t then noMatch else noMatch)
-      go true = refl
-      go false = refl
+      go : (t p f : Bool) (m : Matched) → (f ≡ false → m ≡ noMatch) → (if t && p && f then m else noMatch) ≡ (if t && p && true then m else noMatch)
+      go false p f m e = refl
+      go true false f m e = refl
+      go true true true m e = refl
+      go true true false m e = sym (e refl)

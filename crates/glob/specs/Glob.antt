@@ -1,21 +1,19 @@
 -- A whole pattern against a path.
-use Prim.Native.Nat.{ℕ, _≤_}
-use mathlib.Core.Path.{_≡_}
+use Prim.Native.Nat.{ℕ, zero, suc}
 use mathlib.Core.List.{List}
-use mathlib.Core.Bool.{Bool, true, false, _&&_}
-use lib.ListN.{length}
-use lib.Dec.{eqb, leb}
+use mathlib.Core.Bool.{Bool, false, _&&_, _||_}
+use lib.ListN.{take}
+use lib.Dec.{eqb}
 use Rattle.scan.specs.Bytes.{every, if_then_else_}
 use Rattle.pattern.specs.Pieces.{Piece}
-use Rattle.pattern.specs.Expansions.{Variable, longest, isLiteral, joined}
+use Rattle.pattern.specs.Expansions.{Variable, isLiteral, joined}
 use Rattle.pattern.specs.Faults.{patternFault}
+use Rattle.sizes.specs.Numbered.{Numbered, patternBy}
+use Rattle.expand.specs.Write.{textFits}
 use Rattle.matcher.specs.Match.{matches, matchesSome, matchesExactly}
 use Rattle.matcher.specs.Walk.{pathFits}
+use Rattle.front.specs.Front.{beginning, front}
 use Rattle.glob.specs.declared.Matched.{Matched}
-
--- a text that is refused by no. 1 has more bytes
-abbrev pub textFits : List ℕ → Bool
-textFits s = leb (length s) 65535
 
 -- nothing is matched
 abbrev pub noMatch : Matched
@@ -28,14 +26,30 @@ matchedOf text vs pattern path =
     record { some = matchesSome vs pattern path; exact = matchesExactly vs pattern path }
     else noMatch
 
--- ---- one expansion
+-- ---- by number, under a table of sizes whatever it holds
 
+-- one expansion
 unfoldable pub matchedBy : List Piece → (path : List ℕ) → Matched
 matchedBy x path = record { some = matches (joined x) path; exact = every isLiteral x && matches (joined x) path }
 
--- the text, the path and the expansions are within the sizes of document 01
-pub record Within (text : List ℕ) (xs : List (List Piece)) (path : List ℕ) : Type 0 where
-  pub short : length text ≤ 65535
-  pub fits : pathFits path ≡ true
-  pub few : length xs ≤ 256
-  pub room : longest xs ≤ 1024
+-- p holds of some number below n
+unfoldable pub someBelow : (ℕ → Bool) → ℕ → Bool
+someBelow p zero = false
+someBelow p (suc n) = someBelow p n || p n
+
+-- expansion number d, cut to "1,024 pieces in an expansion"
+abbrev pub matchedAt : Numbered → (path : List ℕ) → ℕ → Matched
+matchedAt a path d = matchedBy (take 1024 (a .nth d)) path
+
+-- some expansion with a number below k
+abbrev pub matchedBelow : Numbered → (path : List ℕ) → ℕ → Matched
+matchedBelow a path k = record { some = someBelow (λ d. matchedAt a path d .some) k; exact = someBelow (λ d. matchedAt a path d .exact) k }
+
+abbrev pub matchedAll : Numbered → (path : List ℕ) → Matched
+matchedAll a path = matchedBelow a path (a .size .count)
+
+-- a text or path too long is not looked at, nor is a path that does not begin with the front of the pattern
+unfoldable pub matchedIn : (text vars : List ℕ) (n : ℕ) (table pattern path : List ℕ) → Matched
+matchedIn text vars n table pattern path =
+    if textFits text && pathFits path && beginning (front pattern) path then matchedAll (patternBy text vars n table pattern) path
+    else noMatch

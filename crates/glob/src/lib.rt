@@ -5,18 +5,12 @@ use expand::write_pattern;
 use front::fits_front;
 use measure::pattern_size;
 ghost use mathlib.Core.Path.{_≡_};
-ghost use mathlib.Core.List.{[]};
 ghost use mathlib.Core.Bool.{true, _&&_};
-ghost use Prim.Native.Nat.{ℕ, _<_};
-ghost use lib.ListN.{length, getD};
 ghost use Rattle.scan.specs.Bytes.{span};
-ghost use Rattle.pattern.specs.Expansions.{expansions};
-ghost use Rattle.pattern.specs.Faults.{patternFault};
-ghost use Rattle.pattern.specs.Table.{env};
-ghost use Rattle.sizes.specs.Sizes.{Known};
-ghost use Rattle.matcher.specs.Match.{matchesSome, matchesExactly};
+ghost use Rattle.sizes.specs.Numbered.{patternBy};
+ghost use Rattle.expand.specs.Write.{textFits};
 ghost use Rattle.matcher.specs.Walk.{pathFits};
-ghost use Rattle.glob.specs.Glob.{matchedOf, matchedBy, textFits, Within};
+ghost use Rattle.glob.specs.Glob.{matchedAt, matchedAll, matchedIn};
 
 // Whether some expansion matches, and whether one of literals only does.
 pub struct Matched {
@@ -36,10 +30,8 @@ fn match_expansion(
     path: &[u8],
     codes: &mut [u32; 1024],
 ) -> Matched
-    ensures { λ r. ⌜ (Known (now (text .entry)) (now (vars .entry)) n (now (sizes .entry)) →
-        Within (now (text .entry)) (expansions (env (now (text .entry)) (now (vars .entry)) n) (span (now (text .entry)) a e)) (now (path .entry)) →
-        d < length (expansions (env (now (text .entry)) (now (vars .entry)) n) (span (now (text .entry)) a e)) →
-        r ≡ matchedBy (getD (expansions (env (now (text .entry)) (now (vars .entry)) n) (span (now (text .entry)) a e)) d []) (now (path .entry))) ⌝ }
+    requires { ⌜ (textFits (now text) && pathFits (now path)) ≡ true ⌝ }
+    ensures { λ r. ⌜ r ≡ matchedAt (patternBy (now (text .entry)) (now (vars .entry)) n (now (sizes .entry)) (span (now (text .entry)) a e)) (now (path .entry)) d ⌝ }
 {
     let count = write_pattern(text, vars, n, sizes, a, e, d, codes);
     let literal = is_literal(codes, count);
@@ -61,12 +53,8 @@ fn match_expansions(
     e: usize,
     path: &[u8],
 ) -> Matched
-    ensures { λ r. ⌜ (Known (now (text .entry)) (now (vars .entry)) n (now (sizes .entry)) →
-        Within (now (text .entry)) (expansions (env (now (text .entry)) (now (vars .entry)) n) (span (now (text .entry)) a e)) (now (path .entry)) →
-        r ≡ record {
-          some = matchesSome (env (now (text .entry)) (now (vars .entry)) n) (span (now (text .entry)) a e) (now (path .entry));
-          exact = matchesExactly (env (now (text .entry)) (now (vars .entry)) n) (span (now (text .entry)) a e) (now (path .entry));
-        }) ⌝ }
+    requires { ⌜ (textFits (now text) && pathFits (now path)) ≡ true ⌝ }
+    ensures { λ r. ⌜ r ≡ matchedAll (patternBy (now (text .entry)) (now (vars .entry)) n (now (sizes .entry)) (span (now (text .entry)) a e)) (now (path .entry)) ⌝ }
 {
     let size = pattern_size(text, vars, n, sizes, a, e);
     let count = size.count;
@@ -90,8 +78,8 @@ fn match_expansions(
     }
 }
 
-// The pattern from a to before e against a path, the sizes of the first n variables being known, where the text and the path fit
-// and the pattern has no fault. A path that does not begin with the pattern's front is matched by none of its expansions.
+// The pattern from a to before e against a path, by a table of the sizes of the first n variables.
+// A path that does not begin with the pattern's front is matched by none of its expansions.
 pub fn match_good(
     text: &[u8],
     vars: &[usize; 1120],
@@ -101,13 +89,12 @@ pub fn match_good(
     e: usize,
     path: &[u8],
 ) -> Matched
-    ensures { λ r. ⌜ (Known (now (text .entry)) (now (vars .entry)) n (now (sizes .entry)) →
-        (textFits (now (text .entry)) && pathFits (now (path .entry))) ≡ true →
-        patternFault (env (now (text .entry)) (now (vars .entry)) n) (span (now (text .entry)) a e) ≡ 0 →
-        r ≡ matchedOf (now (text .entry)) (env (now (text .entry)) (now (vars .entry)) n) (span (now (text .entry)) a e) (now (path .entry))) ⌝ }
+    ensures { λ r. ⌜ r ≡ matchedIn (now (text .entry)) (now (vars .entry)) n (now (sizes .entry)) (span (now (text .entry)) a e) (now (path .entry)) ⌝ }
 {
-    if fits_front(text, a, e, path) {
-        return match_expansions(text, vars, n, sizes, a, e, path);
+    if (text.len() <= 65535) & (path.len() <= 4095) {
+        if fits_front(text, a, e, path) {
+            return match_expansions(text, vars, n, sizes, a, e, path);
+        }
     }
     Matched {
         some: false,

@@ -1,4 +1,4 @@
-// The sizes of the parts, values, items and patterns of a text.
+// The sizes of the parts, values, items and patterns of a text by a table of the sizes of the variables.
 use ends::item_end;
 use ends::literal_end;
 use ends::part_end;
@@ -21,11 +21,12 @@ ghost use lib.ListN.{length};
 ghost use Rattle.scan.specs.Bytes.{span};
 ghost use Rattle.pattern.specs.Pieces.{Byte};
 ghost use Rattle.pattern.specs.Items.{alternatives};
-ghost use Rattle.pattern.specs.Expansions.{expansions, isSlash, listing};
+ghost use Rattle.pattern.specs.Expansions.{isSlash};
 ghost use Rattle.pattern.specs.Codes.{decode};
 ghost use Rattle.pattern.specs.Reads.{codeOf, seenPart, seenItem};
-ghost use Rattle.pattern.specs.Table.{env, ofNumber};
-ghost use Rattle.sizes.specs.Sizes.{noSize, sizeOf, sizeAt, withSize, Known, partChoices, valueChoices, oneChoices, itemChoices};
+ghost use Rattle.pattern.specs.Table.{valuesOf};
+ghost use Rattle.sizes.specs.Sizes.{noSize, sizeOf, sizeAt, withSize, Known};
+ghost use Rattle.sizes.specs.Numbered.{partBy, valueBy, oneBy, itemBy, patternBy};
 
 // The size of no expansion in row 0, then that of each variable; row r has its count at 4 * r, its longest at 4 * r + 1,
 // and whether it is empty and slashed, as 0 or 1, at 4 * r + 2 and 4 * r + 3.
@@ -88,7 +89,7 @@ pub fn part_size(
     sizes: &[usize; 132],
     p: PartRead,
 ) -> Size
-    ensures { λ r. ⌜ (Known (now (text .entry)) (now (vars .entry)) n (now (sizes .entry)) → r ≡ sizeOf (partChoices (env (now (text .entry)) (now (vars .entry)) n) (seenPart (now (text .entry)) p))) ⌝ }
+    ensures { λ r. ⌜ r ≡ partBy (now (text .entry)) (now (vars .entry)) n (now (sizes .entry)) (seenPart (now (text .entry)) p) .size ⌝ }
 {
     match p {
         PartRead::Is(q) => Size {
@@ -135,7 +136,7 @@ pub fn value_size(
     a: usize,
     e: usize,
 ) -> Size
-    ensures { λ r. ⌜ (Known (now (text .entry)) (now (vars .entry)) n (now (sizes .entry)) → r ≡ sizeOf (valueChoices (env (now (text .entry)) (now (vars .entry)) n) (span (now (text .entry)) a e))) ⌝ }
+    ensures { λ r. ⌜ r ≡ valueBy (now (text .entry)) (now (vars .entry)) n (now (sizes .entry)) (span (now (text .entry)) a e) .size ⌝ }
 {
     let s = span(text, a, e);
     let mut at = literal_end(s, 0);
@@ -150,10 +151,10 @@ pub fn value_size(
     size
 }
 
-// The size of the variable w, those before it being known.
+// The size of the variable w by the sizes of those before it.
 fn variable_size(text: &[u8], vars: &[usize; 1120], w: usize, sizes: &[usize; 132]) -> Size
     requires { ⌜ w < 32 ⌝ }
-    ensures { λ r. ⌜ (Known (now (text .entry)) (now (vars .entry)) w (now (sizes .entry)) → r ≡ sizeOf (ofNumber listing (now (text .entry)) (now (vars .entry)) (w + 1))) ⌝ }
+    ensures { λ r. ⌜ r ≡ oneBy (now (text .entry)) (now (vars .entry)) w (now (sizes .entry)) (valuesOf (now (text .entry)) (now (vars .entry)) w) .size ⌝ }
 {
     let m = least(16, vars[64 + w]);
     let mut size = no_size();
@@ -191,7 +192,7 @@ fn among_size(
     a: usize,
     e: usize,
 ) -> Size
-    ensures { λ r. ⌜ (Known (now (text .entry)) (now (vars .entry)) n (now (sizes .entry)) → r ≡ sizeOf (oneChoices (env (now (text .entry)) (now (vars .entry)) n) (alternatives (span (now (text .entry)) a e)))) ⌝ }
+    ensures { λ r. ⌜ r ≡ oneBy (now (text .entry)) (now (vars .entry)) n (now (sizes .entry)) (alternatives (span (now (text .entry)) a e)) .size ⌝ }
 {
     let s = span(text, a, e);
     let mut size = no_size();
@@ -214,7 +215,7 @@ pub fn item_size(
     sizes: &[usize; 132],
     i: ItemRead,
 ) -> Size
-    ensures { λ r. ⌜ (Known (now (text .entry)) (now (vars .entry)) n (now (sizes .entry)) → r ≡ sizeOf (itemChoices (env (now (text .entry)) (now (vars .entry)) n) (seenItem (now (text .entry)) i))) ⌝ }
+    ensures { λ r. ⌜ r ≡ itemBy (now (text .entry)) (now (vars .entry)) n (now (sizes .entry)) (seenItem (now (text .entry)) i) .size ⌝ }
 {
     match i {
         ItemRead::Single(p) => part_size(text, vars, n, sizes, p),
@@ -222,7 +223,7 @@ pub fn item_size(
     }
 }
 
-// The size of the pattern from a to before e, the sizes of the variables being known.
+// The size of the pattern from a to before e.
 pub fn pattern_size(
     text: &[u8],
     vars: &[usize; 1120],
@@ -231,7 +232,7 @@ pub fn pattern_size(
     a: usize,
     e: usize,
 ) -> Size
-    ensures { λ r. ⌜ (Known (now (text .entry)) (now (vars .entry)) n (now (sizes .entry)) → r ≡ sizeOf (expansions (env (now (text .entry)) (now (vars .entry)) n) (span (now (text .entry)) a e))) ⌝ }
+    ensures { λ r. ⌜ r ≡ patternBy (now (text .entry)) (now (vars .entry)) n (now (sizes .entry)) (span (now (text .entry)) a e) .size ⌝ }
 {
     let s = span(text, a, e);
     let mut at = literal_end(s, 0);

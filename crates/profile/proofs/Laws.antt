@@ -9,7 +9,7 @@ use lib.Dec.{leb}
 use native.Mathlib.Numerals.{add-one}
 use native.Mathlib.Omega.{arith}
 use borrow.Author.Tests.{le-leb, leb-false, lt-leb}
-use Rattle.scan.specs.Bytes.{bytes, same, some, span}
+use Rattle.scan.specs.Bytes.{span}
 use Rattle.text.specs.Reading.{Reading, Read, Refused, _>>=_, refuseIf, lineOf}
 use Rattle.tokens.specs.Tokens.{Token, noStop, tokenAt}
 use Rattle.blanks.specs.Blanks.{standing}
@@ -17,15 +17,15 @@ use Rattle.keywords.specs.Keywords.{firstWord, notTaken}
 use Rattle.text.specs.declared.Place.{Place}
 use Rattle.text.specs.declared.Stop.{Stop}
 use Rattle.pattern.specs.Expansions.{Variable}
+use Rattle.pattern.specs.Faults.{patternFault}
 use Rattle.pattern.specs.Table.{bytesAt, env}
-use Rattle.rule.specs.Rules.{RuleRead, RulesRead, ifWord, rulesAt}
+use Rattle.rule.specs.Rules.{RuleRead, RulesRead, Step, More, Close, endAt, followed, noRules, ruleAt, rulesAt, stepThen}
 use Rattle.text.specs.Places.{refusedBy, spanOf}
 use Rattle.text.specs.declared.Span.{Span}
-use Rattle.statement.specs.Steps.{Step, More, Close, Counted, counted, endAt, followed, noRules, ruleAt, rulesFrom}
+use Rattle.statement.specs.Steps.{Counted, counted, rulesFrom}
 use Rattle.body.specs.Places.{seenRules}
 use Rattle.body.specs.declared.RulesRead as code
 use Rattle.body.specs.declared.RulesRead.the-variants as rules-read
-use Rattle.statement.proofs.Laws.{onward, rules-by, rules-end}
 use Rattle.preamble.specs.Variables.{finalSets}
 use Rattle.preamble.specs.Preamble.{Preamble, preambleAt}
 use Rattle.preamble.specs.Places.{State, preambleOf, seenPreamble}
@@ -35,8 +35,8 @@ use Rattle.heads.specs.Heads.{Head, headAt, nameAt}
 use Rattle.heads.specs.Places.{namesOf, seenHead}
 use Rattle.heads.specs.declared.HeadRead.{HeadRead}
 use Rattle.heads.specs.declared.HeadRead.the-variants as head
-use Rattle.profile.specs.Profiles.{Profile, ends, fileOf, profilesAt}
-use Rattle.profile.specs.Places.{Judged, Accepted, Rejected, OneMore, OneProfile, judgedOf, oneProfile, profileAt, profileOf, profilesFrom, profilesOf, seenFile, seenProfile, seenProfiles}
+use Rattle.profile.specs.Profiles.{OneProfile, Profile, ends, fileOf, oneProfile, profileAt, profilesAt, unlessEnd}
+use Rattle.profile.specs.Places.{Judged, Accepted, Rejected, OneMore, judgedOf, profileOf, profilesFrom, profilesOf, seenFile, seenProfile, seenProfiles}
 use Rattle.profile.specs.declared.Profiles.{Profiles}
 use Rattle.profile.specs.declared.ProfileRead.{ProfileRead}
 use Rattle.profile.specs.declared.ProfileRead.the-variants as profile-read
@@ -58,28 +58,28 @@ head-full used s at {h} e = go (refuseIf (firstWord notTaken s at) 5 (standing s
 -- ---- rules read again, one at a time
 
 -- as many as were read, which are no more than allowed
-abbrev Again : (left : ℕ) → List Variable → List ℕ → ℕ → RulesRead → Type 0
-Again left vs s at rs = (rulesFrom (length (rs .rules)) vs s at ≡ rs .rules) × (length (rs .rules) ≤ left)
+abbrev Again : (left : ℕ) → (List ℕ → ℕ) → List ℕ → ℕ → RulesRead → Type 0
+Again left fault s at rs = (rulesFrom (length (rs .rules)) fault s at ≡ rs .rules) × (length (rs .rules) ≤ left)
 
-rules-again : (left : ℕ) (vs : List Variable) (s : List ℕ) (at : ℕ) (rs : RulesRead) → rulesAt left vs s at ≡ Read rs → Again left vs s at rs
-unfolding rulesFrom
-rules-again zero vs s at rs e = go (endAt s at) (sym (rules-end vs s at) ∙ e)
+rules-again : (left : ℕ) (fault : List ℕ → ℕ) (s : List ℕ) (at : ℕ) (rs : RulesRead) → rulesAt left fault s at ≡ Read rs → Again left fault s at rs
+unfolding rulesFrom rulesAt
+rules-again zero fault s at rs e = go (endAt s at) e
   where
-    go : (x : Reading ℕ) → (x >>= λ n. Read (noRules n)) ≡ Read rs → Again 0 vs s at rs
+    go : (x : Reading ℕ) → (x >>= λ n. Read (noRules n)) ≡ Read rs → Again 0 fault s at rs
     go (Read n) q = let k : rs ≡ noRules n = cc in rw k (refl, omega arith)
     go (Refused n p) q = let z : _≡_ {A = ℕ} 0 1 = cc in absurd (omega arith)
-rules-again (suc left) vs s at rs e = go (λ r. rules-again left vs s (r .next)) (ruleAt vs s at) refl (sym (rules-by vs s at left) ∙ e)
+rules-again (suc left) fault s at rs e = go (λ r. rules-again left fault s (r .next)) (ruleAt fault s at) refl e
   where
-    more : (r : RuleRead) → ((m : RulesRead) → rulesAt left vs s (r .next) ≡ Read m → Again left vs s (r .next) m) → ruleAt vs s at ≡ Read (More r) →
-        (y : Reading RulesRead) → rulesAt left vs s (r .next) ≡ y → followed r y ≡ Read rs → Again (suc left) vs s at rs
+    more : (r : RuleRead) → ((m : RulesRead) → rulesAt left fault s (r .next) ≡ Read m → Again left fault s (r .next) m) → ruleAt fault s at ≡ Read (More r) →
+        (y : Reading RulesRead) → rulesAt left fault s (r .next) ≡ y → followed r y ≡ Read rs → Again (suc left) fault s at rs
     more r i f (Read m) g q =
         let k : rs ≡ record { rules = r .rule ∷ m .rules; next = m .next } = cc in
         rw k (rw (f, i m g .0), omega (arith, i m g .1))
     more r i f (Refused n p) g q = let z : _≡_ {A = ℕ} 0 1 = cc in absurd (omega arith)
 
-    go : ((r : RuleRead) (m : RulesRead) → rulesAt left vs s (r .next) ≡ Read m → Again left vs s (r .next) m) →
-        (x : Reading Step) → ruleAt vs s at ≡ x → (x >>= onward vs s at left) ≡ Read rs → Again (suc left) vs s at rs
-    go i (Read (More r)) f q = more r (i r) f (rulesAt left vs s (r .next)) refl q
+    go : ((r : RuleRead) (m : RulesRead) → rulesAt left fault s (r .next) ≡ Read m → Again left fault s (r .next) m) →
+        (x : Reading Step) → ruleAt fault s at ≡ x → (x >>= stepThen (λ r. rulesAt left fault s (r .next))) ≡ Read rs → Again (suc left) fault s at rs
+    go i (Read (More r)) f q = more r (i r) f (rulesAt left fault s (r .next)) refl q
     go i (Read (Close n)) f q = let k : rs ≡ noRules n = cc in rw k (refl, omega arith)
     go i (Refused n p) f q = let z : _≡_ {A = ℕ} 0 1 = cc in absurd (omega arith)
 
@@ -91,27 +91,27 @@ module _ (full : Bool) (left : ℕ) (used : List (List ℕ)) (vs : List Variable
   profile-refused e = rw (e, profileAt)
 
   module _ (h : Head) (e : headAt full used s at ≡ Read h) where
-    profile-rules-refused : {n p : ℕ} → counted (rulesAt left vs s (h .next)) ≡ Refused n p → profileAt full left used vs s at ≡ Refused n p
+    profile-rules-refused : {n p : ℕ} → counted (rulesAt left (patternFault vs) s (h .next)) ≡ Refused n p → profileAt full left used vs s at ≡ Refused n p
     unfolding profileAt counted
-    profile-rules-refused {n} {p} f = rw (e, profileAt) (go (rulesAt left vs s (h .next)) f)
+    profile-rules-refused {n} {p} f = rw (e, profileAt) (go (rulesAt left (patternFault vs) s (h .next)) f)
       where
         go : (x : Reading RulesRead) → counted x ≡ Refused n p → (x >>= λ rs. Read (oneProfile (h .name) rs)) ≡ Refused n p
         go (Read rs) q = let z : _≡_ {A = ℕ} 0 1 = cc in absurd (omega arith)
         go (Refused m r) q = cc
 
-    profile-good : {k n : ℕ} → counted (rulesAt left vs s (h .next)) ≡ Read (record { count = k; next = n }) →
-        profileAt full left used vs s at ≡ Read (record { profile = record { name = h .name; rules = rulesFrom k vs s (h .next) }; count = k; next = n })
+    profile-good : {k n : ℕ} → counted (rulesAt left (patternFault vs) s (h .next)) ≡ Read (record { count = k; next = n }) →
+        profileAt full left used vs s at ≡ Read (record { profile = record { name = h .name; rules = rulesFrom k (patternFault vs) s (h .next) }; count = k; next = n })
     unfolding profileAt counted
-    profile-good {k} {n} f = rw (e, profileAt) (go (rulesAt left vs s (h .next)) refl f)
+    profile-good {k} {n} f = rw (e, profileAt) (go (rulesAt left (patternFault vs) s (h .next)) refl f)
       where
-        go : (x : Reading RulesRead) → rulesAt left vs s (h .next) ≡ x → counted x ≡ Read (record { count = k; next = n }) →
+        go : (x : Reading RulesRead) → rulesAt left (patternFault vs) s (h .next) ≡ x → counted x ≡ Read (record { count = k; next = n }) →
             (x >>= λ rs. Read (oneProfile (h .name) rs))
-            ≡ Read (record { profile = record { name = h .name; rules = rulesFrom k vs s (h .next) }; count = k; next = n })
+            ≡ Read (record { profile = record { name = h .name; rules = rulesFrom k (patternFault vs) s (h .next) }; count = k; next = n })
         go (Read rs) r q =
             let c : _≡_ {A = Counted} (record { count = length (rs .rules); next = rs .next }) (record { count = k; next = n }) = cc in
             let i : k ≡ length (rs .rules) = ap (λ (x : Counted). x .count) (sym c) in
             let j : n ≡ rs .next = ap (λ (x : Counted). x .next) (sym c) in
-            rw (i, j, rules-again left vs s (h .next) rs r .0)
+            rw (i, j, rules-again left (patternFault vs) s (h .next) rs r .0)
         go (Refused m p) r q = let z : _≡_ {A = ℕ} 0 1 = cc in absurd (omega arith)
 
   -- by the head and the rules that were read
@@ -120,7 +120,7 @@ module _ (full : Bool) (left : ℕ) (used : List (List ℕ)) (vs : List Variable
     unfolding seenHead
     by-head-refused stop g = profile-refused (rw (← e, g))
 
-    module _ (name : Span) (next : Place) (g : r ≡ head.Good name next) (rs : code.RulesRead) (f : seenRules rs ≡ counted (rulesAt left vs s (next .0))) where
+    module _ (name : Span) (next : Place) (g : r ≡ head.Good name next) (rs : code.RulesRead) (f : seenRules rs ≡ counted (rulesAt left (patternFault vs) s (next .0))) where
       read-head : headAt full used s at ≡ Read (record { name = spanOf s name; next = next .0 })
       unfolding seenHead
       read-head = rw (← e, g)
@@ -130,7 +130,7 @@ module _ (full : Bool) (left : ℕ) (used : List (List ℕ)) (vs : List Variable
       by-rules-refused stop h = profile-rules-refused (record { name = spanOf s name; next = next .0 }) read-head (rw (← f, h))
 
       pub by-rules-good : (k : ℕ) (past : Place) → rs ≡ rules-read.Good k past →
-          profileAt full left used vs s at ≡ Read (record { profile = record { name = spanOf s name; rules = rulesFrom k vs s (next .0) }; count = k; next = past .0 })
+          profileAt full left used vs s at ≡ Read (record { profile = record { name = spanOf s name; rules = rulesFrom k (patternFault vs) s (next .0) }; count = k; next = past .0 })
       unfolding seenRules
       by-rules-good k past h = profile-good (record { name = spanOf s name; next = next .0 }) read-head (rw (← f, h))
 
@@ -138,12 +138,12 @@ module _ (full : Bool) (left : ℕ) (used : List (List ℕ)) (vs : List Variable
   unfolding profileAt
   profile-left {x} e = go (headAt full used s at) e
     where
-      rules : (h : Head) (y : Reading RulesRead) → rulesAt left vs s (h .next) ≡ y → (y >>= λ rs. Read (oneProfile (h .name) rs)) ≡ Read x → x .count ≤ left
-      rules h (Read rs) f q = let k : x ≡ oneProfile (h .name) rs = cc in rw k (rules-again left vs s (h .next) rs f .1)
+      rules : (h : Head) (y : Reading RulesRead) → rulesAt left (patternFault vs) s (h .next) ≡ y → (y >>= λ rs. Read (oneProfile (h .name) rs)) ≡ Read x → x .count ≤ left
+      rules h (Read rs) f q = let k : x ≡ oneProfile (h .name) rs = cc in rw k (rules-again left (patternFault vs) s (h .next) rs f .1)
       rules h (Refused n p) f q = let z : _≡_ {A = ℕ} 0 1 = cc in absurd (omega arith)
 
-      go : (y : Reading Head) → (y >>= λ h. rulesAt left vs s (h .next) >>= λ rs. Read (oneProfile (h .name) rs)) ≡ Read x → x .count ≤ left
-      go (Read h) q = rules h (rulesAt left vs s (h .next)) refl q
+      go : (y : Reading Head) → (y >>= λ h. rulesAt left (patternFault vs) s (h .next) >>= λ rs. Read (oneProfile (h .name) rs)) ≡ Read x → x .count ≤ left
+      go (Read h) q = rules h (rulesAt left (patternFault vs) s (h .next)) refl q
       go (Refused n p) q = let z : _≡_ {A = ℕ} 0 1 = cc in absurd (omega arith)
 
 -- ---- all profiles, by what stands first
@@ -169,46 +169,27 @@ after-one ps p (Refused n q) = refl
 
 module _ (rulesLeft : ℕ) (used : List (List ℕ)) (vs : List Variable) (s : List ℕ) (at : ℕ) where
   profiles-end : (left : ℕ) → ends (tokenAt noStop s at) ≡ true → profilesAt left rulesLeft used vs s at ≡ Read []
-  unfolding profilesAt
-  profiles-end zero e = rw (e, profilesAt)
-  profiles-end (suc left) e = rw (e, profilesAt)
+  unfolding profilesAt unlessEnd
+  profiles-end zero e = rw (e, unlessEnd)
+  profiles-end (suc left) e = rw (e, unlessEnd)
 
   module _ (e : ends (tokenAt noStop s at) ≡ false) where
     abbrev onward-from : (left : ℕ) → OneProfile → Reading (List Profile)
     onward-from left x = joined (x .profile) (profilesAt left (rulesLeft - x .count) (x .profile .name ∷ used) vs s (x .next))
 
     profiles-by : (left : ℕ) → profilesAt (suc left) rulesLeft used vs s at ≡ (profileAt false rulesLeft used vs s at >>= onward-from left)
-    unfolding profilesAt profileAt
-    profiles-by left = rw (e, profilesAt) (go (headAt false used s at))
-      where
-        rules : (h : Head) (y : Reading RulesRead) →
-            (y >>= λ rs. joined (record { name = h .name; rules = rs .rules }) (profilesAt left (rulesLeft - length (rs .rules)) (h .name ∷ used) vs s (rs .next)))
-            ≡ ((y >>= λ rs. Read (oneProfile (h .name) rs)) >>= onward-from left)
-        rules h (Read rs) = refl
-        rules h (Refused n p) = refl
-
-        go : (x : Reading Head) →
-            (x >>= λ h. rulesAt rulesLeft vs s (h .next) >>= λ rs.
-            joined (record { name = h .name; rules = rs .rules }) (profilesAt left (rulesLeft - length (rs .rules)) (h .name ∷ used) vs s (rs .next)))
-            ≡ ((x >>= λ h. rulesAt rulesLeft vs s (h .next) >>= λ rs. Read (oneProfile (h .name) rs)) >>= onward-from left)
-        go (Read h) = rules h (rulesAt rulesLeft vs s (h .next))
-        go (Refused n p) = refl
+    unfolding profilesAt unlessEnd
+    profiles-by left = rw (e, unlessEnd)
 
     profiles-full : {n p : ℕ} → profileAt true rulesLeft used vs s at ≡ Refused n p → profilesAt zero rulesLeft used vs s at ≡ Refused n p
-    unfolding profilesAt profileAt
-    profiles-full {n} {p} f = rw (e, profilesAt) (go (headAt true used s at) refl f)
-      where
-        go : (x : Reading Head) → headAt true used s at ≡ x →
-            (x >>= λ h. rulesAt rulesLeft vs s (h .next) >>= λ rs. Read (oneProfile (h .name) rs)) ≡ Refused n p →
-            (x >>= λ h. _>>=_ {A = List Profile} (Read []) Read) ≡ Refused n p
-        go (Read h) r q = absurd (head-full used s at r)
-        go (Refused m o) r q = cc
+    unfolding profilesAt unlessEnd
+    profiles-full f = rw (e, unlessEnd, f)
 
   profile-full : {x : OneProfile} → profileAt true rulesLeft used vs s at ≡ Read x → ⊥
   unfolding profileAt
   profile-full {x} f = go (headAt true used s at) refl f
     where
-      go : (y : Reading Head) → headAt true used s at ≡ y → (y >>= λ h. rulesAt rulesLeft vs s (h .next) >>= λ rs. Read (oneProfile (h .name) rs)) ≡ Read x → ⊥
+      go : (y : Reading Head) → headAt true used s at ≡ y → (y >>= λ h. rulesAt rulesLeft (patternFault vs) s (h .next) >>= λ rs. Read (oneProfile (h .name) rs)) ≡ Read x → ⊥
       go (Read h) r q = head-full used s at r
       go (Refused n p) r q = let z : _≡_ {A = ℕ} 0 1 = cc in omega arith
 
@@ -256,10 +237,10 @@ module _ (vs : List Variable) (s : List ℕ) (p : Profiles) (left at : ℕ) wher
 
       -- one profile more
       read-more : {name : Span} {rules : Place} {k n : ℕ} {new : Profiles} → OneMore p name rules k new →
-          nextOf vs s p left at ≡ Read (record { profile = record { name = spanOf s name; rules = rulesFrom k vs s (rules .0) }; count = k; next = n }) →
+          nextOf vs s p left at ≡ Read (record { profile = record { name = spanOf s name; rules = rulesFrom k (patternFault vs) s (rules .0) }; count = k; next = n }) →
           readFrom vs s p left at ≡ readFrom vs s new (left - k) n
       read-more {name} {rules} {k} {n} {new} w f =
-          let x : Profile = record { name = spanOf s name; rules = rulesFrom k vs s (rules .0) } in
+          let x : Profile = record { name = spanOf s name; rules = rulesFrom k (patternFault vs) s (rules .0) } in
           let ps : List Profile = profilesFrom vs s (p .table) (p .count) 0 in
           let used : List (List ℕ) = namesOf s (p .table) (p .count) in
           let room : p .count < 32 = read-room f in
@@ -277,7 +258,7 @@ module _ (vs : List Variable) (s : List ℕ) (p : Profiles) (left at : ℕ) (low
   turn-refused b stop g = read-refused vs s p left at low b (rw (← e, g))
 
   module _ (name : Span) (rules : Place) (k : ℕ) (next : Place) (g : r ≡ profile-read.Good name rules k next) where
-    told : nextOf vs s p left at ≡ Read (record { profile = record { name = spanOf s name; rules = rulesFrom k vs s (rules .0) }; count = k; next = next .0 })
+    told : nextOf vs s p left at ≡ Read (record { profile = record { name = spanOf s name; rules = rulesFrom k (patternFault vs) s (rules .0) }; count = k; next = next .0 })
     unfolding seenProfile
     told = rw (← e, g)
 

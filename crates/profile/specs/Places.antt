@@ -2,28 +2,23 @@
 -- the place where its rules start at 4 * i + 2, and their number at 4 * i + 3.
 use Prim.Native.Nat.{ℕ, zero, suc, _+_, _*_}
 use Prim.Native.Char.{code}
-use mathlib.Core.Bool.{Bool, not, _||_, _&&_}
 use mathlib.Core.Path.{_≡_}
 use mathlib.Core.List.{List, [], _∷_, _++_}
-use lib.ListN.{length, getD}
-use lib.Dec.{ltb}
-use Rattle.scan.specs.Bytes.{begins, same, some, if_then_else_}
-use Rattle.text.specs.Reading.{Reading, Read, Refused, _>>=_, refuseIf, lineOf}
+use lib.ListN.{getD}
+use Rattle.scan.specs.Bytes.{if_then_else_}
+use Rattle.text.specs.Reading.{Reading, Read, Refused, _>>=_, lineOf}
 use Rattle.text.specs.Places.{refusedBy}
-use Rattle.tokens.specs.Tokens.{Token, tokenAt, wanted}
 use Rattle.text.specs.declared.Place.{Place}
 use Rattle.pattern.specs.Expansions.{Variable}
+use Rattle.pattern.specs.Faults.{patternFault}
 use Rattle.pattern.specs.Table.{bytesAt, env}
-use Rattle.names.specs.Names.{nameForm}
-use Rattle.rule.specs.Rules.{RulesRead, rulesAt}
 use Rattle.text.specs.Places.{spanOf}
 use Rattle.text.specs.declared.Span.{Span}
 use Rattle.statement.specs.Steps.{rulesFrom}
 use Rattle.preamble.specs.Variables.{finalSets}
 use Rattle.preamble.specs.Places.{State}
-use Rattle.heads.specs.Heads.{headAt}
 use Rattle.heads.specs.Places.{namesOf}
-use Rattle.profile.specs.Profiles.{Profile, File, profilesAt}
+use Rattle.profile.specs.Profiles.{Profile, File, OneProfile, profilesAt}
 use Rattle.profile.specs.declared.Profiles.{Profiles}
 use Rattle.profile.specs.declared.ProfileRead.{ProfileRead}
 use Rattle.profile.specs.declared.ProfileRead.the-variants as profile-read
@@ -35,7 +30,7 @@ use Rattle.profile.specs.declared.FileRead.{FileRead}
 -- profile i
 abbrev pub profileOf : List Variable → (text t : List ℕ) → ℕ → Profile
 profileOf vs text t i =
-    record { name = bytesAt text t (4 * i); rules = rulesFrom (getD t (4 * i + 3) 0) vs text (getD t (4 * i + 2) 0) }
+    record { name = bytesAt text t (4 * i); rules = rulesFrom (getD t (4 * i + 3) 0) (patternFault vs) text (getD t (4 * i + 2) 0) }
 
 -- k profiles from profile i on
 unfoldable pub profilesFrom : List Variable → (text t : List ℕ) → (k i : ℕ) → List Profile
@@ -48,30 +43,14 @@ pub record OneMore (old : Profiles) (name : Span) (rules : Place) (k : ℕ) (new
   pub names : (s : List ℕ) → namesOf s (new .table) (new .count) ≡ spanOf s name ∷ namesOf s (old .table) (old .count)
   pub last : (vs : List Variable) (s : List ℕ) →
       profilesFrom vs s (new .table) (new .count) 0
-      ≡ profilesFrom vs s (old .table) (old .count) 0 ++ (record { name = spanOf s name; rules = rulesFrom k vs s (rules .0) } ∷ [])
+      ≡ profilesFrom vs s (old .table) (old .count) 0 ++ (record { name = spanOf s name; rules = rulesFrom k (patternFault vs) s (rules .0) } ∷ [])
 
 -- ---- all profiles
 
--- a profile, how many rules it has, and where reading goes on
-pub record OneProfile : Type 0 where
-  pub profile : Profile
-  pub count : ℕ
-  pub next : ℕ
-
--- a profile and where its rules end
-abbrev pub oneProfile : (name : List ℕ) → RulesRead → OneProfile
-oneProfile n rs = record { profile = record { name = n; rules = rs .rules }; count = length (rs .rules); next = rs .next }
-
--- the profile at a place, where so many more rules are allowed
-unfoldable pub profileAt : (full : Bool) → (rulesLeft : ℕ) → (used : List (List ℕ)) → List Variable → List ℕ → ℕ → Reading OneProfile
-profileAt full rulesLeft used vs s at = do
-  h ← headAt full used s at
-  rs ← rulesAt rulesLeft vs s (h .next)
-  Read (oneProfile (h .name) rs)
-
+-- as the code tells it
 unfoldable pub seenProfile : List Variable → List ℕ → ProfileRead → Reading OneProfile
 seenProfile vs s (profile-read.Good name rules k n) =
-    Read (record { profile = record { name = spanOf s name; rules = rulesFrom k vs s (rules .0) }; count = k; next = n .0 })
+    Read (record { profile = record { name = spanOf s name; rules = rulesFrom k (patternFault vs) s (rules .0) }; count = k; next = n .0 })
 seenProfile vs s (profile-read.Refused stop) = refusedBy stop
 
 unfoldable pub seenProfiles : List Variable → List ℕ → ProfilesRead → Reading (List Profile)

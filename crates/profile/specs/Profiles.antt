@@ -1,18 +1,14 @@
 -- The profiles of a text, and the whole text.
-use Prim.Native.Nat.{ℕ, zero, suc, _+_, _-_}
-use Prim.Native.Char.{code}
+use Prim.Native.Nat.{ℕ, zero, suc, _-_}
 use mathlib.Core.List.{List, [], _∷_}
-use mathlib.Core.Bool.{Bool, true, false, not, _||_, _&&_}
+use mathlib.Core.Bool.{Bool, true, false}
 use lib.ListN.{length}
-use lib.Dec.{ltb}
-use Rattle.scan.specs.Bytes.{begins, bytes, same, some}
-use Rattle.text.specs.Reading.{Reading, Read, Refused, _>>=_, refuseIf}
-use Rattle.tokens.specs.Tokens.{Token, Next, Found, Stopped, End, noStop, tokenAt, wanted}
-use Rattle.blanks.specs.Blanks.{standing, standsAt}
-use Rattle.keywords.specs.Keywords.{firstWord, notTaken}
+use Rattle.scan.specs.Bytes.{bytes, some}
+use Rattle.text.specs.Reading.{Reading, Read, Refused, _>>=_}
+use Rattle.tokens.specs.Tokens.{Next, Found, Stopped, End, noStop, tokenAt}
 use Rattle.pattern.specs.Expansions.{Variable}
-use Rattle.names.specs.Names.{nameForm}
-use Rattle.rule.specs.Rules.{Rule, ifWord, rulesAt}
+use Rattle.pattern.specs.Faults.{patternFault}
+use Rattle.rule.specs.Rules.{Rule, RulesRead, rulesAt}
 use Rattle.preamble.specs.Variables.{Assignment}
 use Rattle.preamble.specs.Preamble.{preambleAt}
 use Rattle.heads.specs.Heads.{headAt}
@@ -34,25 +30,33 @@ ends (Found t) = false
 ends (Stopped n p) = false
 ends End = true
 
--- the profiles from a place on, where so many more profiles and rules are allowed, and some names are used; where no more
--- profile is allowed, its head is refused
+-- a profile, how many rules it has, and where reading goes on
+pub record OneProfile : Type 0 where
+  pub profile : Profile
+  pub count : ℕ
+  pub next : ℕ
+
+abbrev pub oneProfile : (name : List ℕ) → RulesRead → OneProfile
+oneProfile n rs = record { profile = record { name = n; rules = rs .rules }; count = length (rs .rules); next = rs .next }
+
+-- the profile at a place, where no more profile or so many more rules are allowed, and some names are used
+unfoldable pub profileAt : (full : Bool) → (rulesLeft : ℕ) → (used : List (List ℕ)) → List Variable → List ℕ → ℕ → Reading OneProfile
+profileAt full rulesLeft used vs s at = do
+  h ← headAt full used s at
+  rs ← rulesAt rulesLeft (patternFault vs) s (h .next)
+  Read (oneProfile (h .name) rs)
+
+-- nothing more where the text ends
+unfoldable pub unlessEnd : List ℕ → ℕ → Reading (List Profile) → Reading (List Profile)
+unlessEnd s at more = elim (ends (tokenAt noStop s at)) [ true ↦ Read [] | false ↦ more ]
+
+-- the profiles from a place on, where so many more profiles and rules are allowed; one too many is refused, by its head at the latest
 unfoldable pub profilesAt : (left rulesLeft : ℕ) → (used : List (List ℕ)) → List Variable → List ℕ → ℕ → Reading (List Profile)
-profilesAt zero rulesLeft used vs s at =
-    elim (ends (tokenAt noStop s at)) [
-      | true ↦ Read []
-      | false ↦ do
-        h ← headAt true used s at
-        Read []
-    ]
-profilesAt (suc left) rulesLeft used vs s at =
-    elim (ends (tokenAt noStop s at)) [
-      | true ↦ Read []
-      | false ↦ do
-        h ← headAt false used s at
-        rs ← rulesAt rulesLeft vs s (h .next)
-        more ← profilesAt left (rulesLeft - length (rs .rules)) (h .name ∷ used) vs s (rs .next)
-        Read (record { name = h .name; rules = rs .rules } ∷ more)
-    ]
+profilesAt zero rulesLeft used vs s at = unlessEnd s at (profileAt true rulesLeft used vs s at >>= λ x. Refused 9 at)
+profilesAt (suc left) rulesLeft used vs s at = unlessEnd s at (do
+  x ← profileAt false rulesLeft used vs s at
+  more ← profilesAt left (rulesLeft - x .count) (x .profile .name ∷ used) vs s (x .next)
+  Read (x .profile ∷ more))
 
 -- "Comments, variable assignments, then profiles with file rules. Sizes: 32 profiles, 512 rules in the file, 32 variables, 16 values each."
 unfoldable pub fileOf : List ℕ → Reading File

@@ -18,10 +18,10 @@ ghost use lib.Dec.{leb};
 ghost use Rattle.tokens.specs.Tokens.{noStop, tokenAt};
 ghost use Rattle.pattern.specs.Table.{env};
 ghost use Rattle.sizes.specs.Sizes.{Known};
-ghost use Rattle.profile.specs.Profiles.{ends, fileOf, profilesAt};
+ghost use Rattle.profile.specs.Profiles.{ends, fileOf, profileAt, profilesAt};
 ghost use Rattle.preamble.specs.Places.{seenPreamble};
 ghost use Rattle.heads.specs.Places.{namesOf};
-ghost use Rattle.profile.specs.Places.{OneMore, judgedOf, profileAt, profilesOf, seenFile, seenProfile, seenProfiles};
+ghost use Rattle.profile.specs.Places.{OneMore, judgedOf, profilesOf, seenFile, seenProfile, seenProfiles};
 
 // The most rules of a text.
 pub const RULES: usize = 512;
@@ -170,12 +170,11 @@ fn profiles_at(
 
 // ---- the whole text
 
-// The refusal, or how many variables are set, the table of their sizes, the table of profiles, and how many it has.
+// The refusal, or how many variables are set, the table of profiles, and how many it has.
 pub struct FileRead {
     pub refused: bool,
     pub refusal: Refusal,
     pub vars: usize,
-    pub sizes: [usize; 132],
     pub profiles: [usize; 128],
     pub count: usize,
 }
@@ -207,14 +206,12 @@ fn profiles_of(
 // Judges a whole text, and sets its variables in the table. What stood there before is of no matter.
 pub fn read(text: &[u8], vars: &mut [usize; 1120]) -> FileRead
     ensures { λ r. ⌜ seenFile (now (text .entry)) (now (vars .exit)) r ≡ judgedOf (now (text .entry)) (fileOf (now (text .entry))) ⌝ }
-    ensures known { λ r. ⌜ Known (now (text .entry)) (now (vars .exit)) (r .vars) (r .sizes) ⌝ }
     ensures few { λ r. ⌜ r .count ≤ 32 ⌝ }
 {
     let p = preamble_at(text, vars);
     let n = p.count;
     let known = sizes_of(text, vars, n);
-    let sizes = known.table;
-    let ps = profiles_of(text, vars, p, &sizes);
+    let ps = profiles_of(text, vars, p, &known.table);
     let found = ps.profiles;
     let profiles = found.table;
     let stop = ps.stop;
@@ -225,7 +222,6 @@ pub fn read(text: &[u8], vars: &mut [usize; 1120]) -> FileRead
             line: text::line_of(text, stop.place),
         },
         vars: n,
-        sizes,
         profiles,
         count: found.count,
     }

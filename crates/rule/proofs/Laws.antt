@@ -1,6 +1,6 @@
 -- What the definition of qualifiers says, and that a rule is the same from two places with the same thing next.
 use Prim.Native.Nat.{ℕ}
-use mathlib.Core.Path.{_≡_, refl, sym}
+use mathlib.Core.Path.{_≡_, refl, sym, ap}
 use mathlib.Core.List.{List}
 use mathlib.Core.Bool.{Bool, true, false, _||_, _&&_, false≢true}
 use Rattle.scan.specs.Bytes.{bytes, if_then_else_}
@@ -9,8 +9,7 @@ use Rattle.blanks.specs.Blanks.{standing}
 use Rattle.tokens.specs.Tokens.{Token, Next, Found, Stopped, End, comma, isWord, noStop, tokenAt, wanted}
 use Rattle.tokens.proofs.Laws.{token-by}
 use Rattle.keywords.specs.Keywords.{barred, wordIs}
-use Rattle.pattern.specs.Expansions.{Variable}
-use Rattle.rule.specs.Rules.{Optional, Qualifiers, RuleRead, ifWord, optional, patternAt, qualifiersAt, ruleFrom}
+use Rattle.rule.specs.Rules.{Optional, Qualifiers, RuleRead, ifWord, optional, patternAt, patternFrom, qualifiersAt, ruleEnd, ruleFrom}
 use Rattle.rule.specs.Places.{denyAfter}
 
 -- the four words, one after another
@@ -80,7 +79,7 @@ alike s a b e =
     }
 
 pub pattern-alike : (s : List ℕ) {q r : Qualifiers} → Alike s q r → patternAt s q ≡ patternAt s r
-unfolding patternAt
+unfolding patternAt patternFrom
 pattern-alike s {q} {r} h = λ i. read (token-by comma s (q .next) (r .next) (h .next) i) (h .next i) (token-by noStop s (q .next) (r .next) (h .next) i) (h .some i)
   where
     read : Next → ℕ → Next → Bool → Reading Token
@@ -90,6 +89,11 @@ pattern-alike s {q} {r} h = λ i. read (token-by comma s (q .next) (r .next) (h 
       _ ← refuseIf (some && isWord t (bytes "{")) 5 (t .start)
       Read t
 
-pub rule-alike : (vs : List Variable) (s : List ℕ) {q r : Qualifiers} (t : Token) → Alike s q r → ruleFrom vs s q t ≡ ruleFrom vs s r t
-unfolding ruleFrom
-rule-alike vs s t h = λ i. ruleFrom vs s (record { audit = h .audit i; deny = h .deny i; owner = h .owner i; some = h .some i; next = 0 }) t
+-- by the token that was read
+pub pattern-from : (s : List ℕ) (q : Qualifiers) {next : Next} → next ≡ tokenAt noStop s (q .next) → patternFrom s next q ≡ patternAt s q
+unfolding patternAt
+pattern-from s q e = ap (λ (n : Next). patternFrom s n q) e
+
+pub rule-alike : (fault : List ℕ → ℕ) (s : List ℕ) {q r : Qualifiers} (t : Token) → Alike s q r → ruleFrom fault s q t ≡ ruleFrom fault s r t
+unfolding ruleFrom ruleEnd
+rule-alike fault s t h = λ i. ruleFrom fault s (record { audit = h .audit i; deny = h .deny i; owner = h .owner i; some = h .some i; next = 0 }) t

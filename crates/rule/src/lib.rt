@@ -10,7 +10,7 @@ use tokens::Token;
 ghost use mathlib.Core.Path.{_≡_};
 ghost use Rattle.tokens.specs.Tokens.{noStop, tokenAt};
 ghost use Rattle.tokens.specs.Places.{seen};
-ghost use Rattle.rule.specs.Rules.{patternAt};
+ghost use Rattle.rule.specs.Rules.{patternFrom};
 ghost use Rattle.rule.specs.Places.{Denied, Qualified, Taken, seenGot, seenQualifiers};
 
 // ---- a rule
@@ -124,7 +124,7 @@ pub enum Got {
 
 // The token of the pattern after the qualifiers.
 pub fn pattern_at(text: &[u8], q: Qualifiers) -> Got
-    ensures { λ r. ⌜ (seen (now (text .entry)) (q .token) ≡ tokenAt noStop (now (text .entry)) (q .next .0) → seenGot (now (text .entry)) r ≡ patternAt (now (text .entry)) (seenQualifiers q)) ⌝ }
+    ensures { λ r. ⌜ seenGot (now (text .entry)) r ≡ patternFrom (now (text .entry)) (seen (now (text .entry)) (q .token)) (seenQualifiers q) ⌝ }
 {
     let next = q.next;
     let token = q.token;

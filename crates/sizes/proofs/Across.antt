@@ -1,7 +1,7 @@
--- Neighbours as lists of expansions: the order of putting together, lengths, and one by its number.
+-- Neighbours as lists of expansions: how many there are, and one by its number.
 use Prim.Native.Nat.{ℕ, zero, suc, _+_, _*_, _-_, _/_, _%_, _≤_, _<_, min}
 use mathlib.Core.Path.{_≡_, refl, sym, ap, ap₂, _∙_}
-use mathlib.Core.List.{List, [], _∷_, _++_, map, append-assoc, append-nil}
+use mathlib.Core.List.{List, [], _∷_, _++_, map, append-nil}
 use mathlib.Core.Bool.{Bool, true, false}
 use lib.ListN.{length, getD, length-append, length-map, List·getD-append}
 use lib.Seq.{getD-append-add}
@@ -20,34 +20,7 @@ length-across xs (t ∷ ts) =
     ∙ ap₂ _+_ (length-map xs (λ x. x ++ t)) (length-across xs ts)
     ∙ sym (mul-suc (length xs) (length ts) ∙ add-comm (length xs * length ts) (length xs))
 
--- ---- associative, with one expansion of no piece as its unit
-
-across-append : (xs a b : List (List Piece)) → across xs (a ++ b) ≡ across xs a ++ across xs b
-unfolding across
-across-append xs [] b = refl
-across-append xs (t ∷ a) b = rw (across-append xs a b) (sym (append-assoc (map (λ x. x ++ t) xs) (across xs a) (across xs b)))
-
-map-append : (t : List Piece) (a b : List (List Piece)) → map (λ x. x ++ t) (a ++ b) ≡ map (λ x. x ++ t) a ++ map (λ x. x ++ t) b
-map-append t [] b = refl
-map-append t (x ∷ a) b = ap (λ (l : List (List Piece)). (x ++ t) ∷ l) (map-append t a b)
-
-map-twice : (y t : List Piece) (xs : List (List Piece)) → map (λ x. x ++ t) (map (λ x. x ++ y) xs) ≡ map (λ x. x ++ (y ++ t)) xs
-map-twice y t [] = refl
-map-twice y t (x ∷ xs) = ap₂ (λ (u : List Piece) (l : List (List Piece)). u ∷ l) (append-assoc x y t) (map-twice y t xs)
-
-across-map : (xs ys : List (List Piece)) (t : List Piece) → map (λ x. x ++ t) (across xs ys) ≡ across xs (map (λ x. x ++ t) ys)
-unfolding across
-across-map xs [] t = refl
-across-map xs (y ∷ ys) t =
-    map-append t (map (λ x. x ++ y) xs) (across xs ys)
-    ∙ ap₂ (λ (a b : List (List Piece)). a ++ b) (map-twice y t xs) (across-map xs ys t)
-
-pub across-assoc : (xs ys ts : List (List Piece)) → across (across xs ys) ts ≡ across xs (across ys ts)
-unfolding across
-across-assoc xs ys [] = refl
-across-assoc xs ys (t ∷ ts) =
-    ap₂ (λ (a b : List (List Piece)). a ++ b) (across-map xs ys t) (across-assoc xs ys ts)
-    ∙ sym (across-append xs (map (λ x. x ++ t) ys) (across ys ts))
+-- ---- with one expansion of no piece, and with none
 
 map-nil : (xs : List (List Piece)) → map (λ x. x ++ []) xs ≡ xs
 map-nil [] = refl
@@ -56,11 +29,6 @@ map-nil (x ∷ xs) = ap₂ (λ (u : List Piece) (l : List (List Piece)). u ∷ l
 pub across-one : (xs : List (List Piece)) → across xs ([] ∷ []) ≡ xs
 unfolding across
 across-one xs = append-nil (map (λ x. x ++ []) xs) ∙ map-nil xs
-
-pub one-across : (ts : List (List Piece)) → across ([] ∷ []) ts ≡ ts
-unfolding across
-one-across [] = refl
-one-across (t ∷ ts) = ap (λ (l : List (List Piece)). t ∷ l) (one-across ts)
 
 pub nil-across : (ts : List (List Piece)) → across [] ts ≡ []
 unfolding across

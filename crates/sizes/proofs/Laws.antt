@@ -44,11 +44,11 @@ longest-across x t xs (u ∷ ts) =
 
 -- ---- no piece, and a first /
 
-or-assoc : (a b c : Bool) → (a || b) || c ≡ a || (b || c)
+pub or-assoc : (a b c : Bool) → (a || b) || c ≡ a || (b || c)
 or-assoc true b c = refl
 or-assoc false b c = refl
 
-and-assoc : (a b c : Bool) → (a && b) && c ≡ a && (b && c)
+pub and-assoc : (a b c : Bool) → (a && b) && c ≡ a && (b && c)
 and-assoc true b c = refl
 and-assoc false b c = refl
 
@@ -125,7 +125,7 @@ slash-across t xs (u ∷ ts) =
 
 -- ---- numbers up to a bound
 
-min-twice : (k n : ℕ) → min k (min k n) ≡ min k n
+pub min-twice : (k n : ℕ) → min k (min k n) ≡ min k n
 min-twice k n = omega arith
 
 sat-add : (k n m : ℕ) → min k (min k n + min k m) ≡ min k (n + m)
@@ -134,7 +134,7 @@ sat-add k n m = omega arith
 sat-max : (k n m : ℕ) → max (min k n) (min k m) ≡ min k (max n m)
 sat-max k n m = omega arith
 
-le-mul : (k j : ℕ) → 1 ≤ j → k ≤ k * j
+pub le-mul : (k j : ℕ) → 1 ≤ j → k ≤ k * j
 le-mul k j h = rw mul-one at (mul-le-mul-left k h)
 
 pub mul-bound : (a b k : ℕ) → a ≤ k → b ≤ k → a * b ≤ k * k
@@ -145,7 +145,7 @@ big k n zero o h = rw (min-zero k, mul-zero k, mul-zero n)
 big k n (suc m) o h =
     min-eq-left (le-mul k (min k (suc m)) (omega arith)) ∙ sym (min-eq-left (le-trans h (le-mul n (suc m) (omega arith))))
 
-sat-mul : (k n m : ℕ) → 1 ≤ k → min k (min k n * min k m) ≡ min k (n * m)
+pub sat-mul : (k n m : ℕ) → 1 ≤ k → min k (min k n * min k m) ≡ min k (n * m)
 sat-mul k n m o = go (leb n k) (leb m k) refl refl
   where
     go : (x y : Bool) → leb n k ≡ x → leb m k ≡ y → min k (min k n * min k m) ≡ min k (n * m)

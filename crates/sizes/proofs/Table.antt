@@ -8,12 +8,15 @@ use lib.Seq.{getD-set-same, getD-set-other}
 use lib.Dec.{eqb}
 use borrow.Author.Tests.{eqb-true, eqb-false}
 use native.Mathlib.Nat.{not-suc-le-zero}
+use native.Mathlib.Numerals.{add-one}
 use native.Mathlib.Omega.{arith}
 use Rattle.pattern.specs.Expansions.{listing}
-use Rattle.pattern.specs.Table.{ofNumber}
+use Rattle.pattern.specs.Table.{ofNumber, valuesOf}
 use Rattle.sizes.specs.declared.Size.{Size}
 use Rattle.sizes.specs.Sizes.{sizeOf, noSize, sizeAt, withSize, bit, Known}
+use Rattle.sizes.specs.Numbered.{oneBy}
 use Rattle.sizes.proofs.Laws.{size-eq, size-none}
+use Rattle.sizes.proofs.Numbered.{one-right}
 
 module _ (t : List ℕ) (r : ℕ) (z : Size) where
   one : List ℕ
@@ -74,12 +77,15 @@ module _ (text vars t : List ℕ) where
       go zero l = row-put t 0 z h ∙ e ∙ sym size-none
       go (suc r) l = absurd (not-suc-le-zero l)
 
-  pub known-more : (w : ℕ) (z : Size) → w < 32 → length t ≡ 132 → Known text vars w t → z ≡ sizeOf (ofNumber listing text vars (w + 1)) →
+  pub known-more : (w : ℕ) (z : Size) → w < 32 → length t ≡ 132 → Known text vars w t → z ≡ oneBy text vars w t (valuesOf text vars w) .size →
       Known text vars (w + 1) (withSize t (w + 1) z)
   known-more w z h size k e = record { right = λ r l. go r l (eqb r (w + 1)) refl }
     where
+      own : z ≡ sizeOf (ofNumber listing text vars (w + 1))
+      own = let b : min 32 w ≡ w = omega arith in e ∙ one-right k (valuesOf text vars w) .size ∙ rw (b, add-one)
+
       go : (r : ℕ) → r ≤ min 32 (w + 1) → (x : Bool) → eqb r (w + 1) ≡ x → sizeAt (withSize t (w + 1) z) r ≡ sizeOf (ofNumber listing text vars r)
-      go r l true p = let q : r ≡ w + 1 = eqb-true r (w + 1) p in rw q (row-put t (w + 1) z (omega arith) ∙ e)
+      go r l true p = let q : r ≡ w + 1 = eqb-true r (w + 1) p in rw q (row-put t (w + 1) z (omega arith) ∙ own)
       go r l false p =
           let n : r ≡ w + 1 → ⊥ = eqb-false r (w + 1) p in
           other-kept t (w + 1) z r n ∙ k .right r (omega arith)

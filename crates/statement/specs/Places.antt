@@ -3,9 +3,8 @@ use Prim.Native.Nat.{ℕ}
 use mathlib.Core.List.{List}
 use Rattle.text.specs.Reading.{Reading, Read}
 use Rattle.text.specs.Places.{refusedBy}
-use Rattle.rule.specs.Rules.{RuleRead}
+use Rattle.rule.specs.Rules.{RuleRead, Step, More, Close}
 use Rattle.rule.specs.Places.{ruleOf}
-use Rattle.statement.specs.Steps.{Step, More, Close}
 use Rattle.statement.specs.declared as code
 use Rattle.statement.specs.declared.RuleRead.the-variants as rule
 use Rattle.statement.specs.declared.Step.the-variants as step

@@ -13,11 +13,9 @@ use text::Stop;
 use tokens::Token;
 ghost use mathlib.Core.Path.{_≡_};
 ghost use Rattle.tokens.specs.Places.{tokenOf};
-ghost use Rattle.pattern.specs.Table.{env};
-ghost use Rattle.sizes.specs.Sizes.{Known};
-ghost use Rattle.rule.specs.Rules.{ruleFrom};
+ghost use Rattle.faults.specs.Sized.{faultBy};
+ghost use Rattle.rule.specs.Rules.{ruleAt, ruleEnd, ruleFrom};
 ghost use Rattle.rule.specs.Places.{seenQualifiers};
-ghost use Rattle.statement.specs.Steps.{ruleAt, ruleEnd};
 ghost use Rattle.statement.specs.Places.{profileIn, profileOf, seenRule, seenStep};
 
 // A rule and where reading goes on, or the refusal.
@@ -64,7 +62,7 @@ fn rule_end(
     }
 }
 
-// The rule with these qualifiers and this pattern, under the first n variables, whose sizes are known.
+// The rule with these qualifiers and this pattern, under the first n variables and their sizes.
 fn rule_from(
     text: &[u8],
     vars: &[usize; 1120],
@@ -74,7 +72,7 @@ fn rule_from(
     q: Qualifiers,
     token: Token,
 ) -> RuleRead
-    ensures { λ r. ⌜ (Known (now (text .entry)) (now (vars .entry)) n (now (sizes .entry)) → seenRule (now (text .entry)) r ≡ ruleFrom (env (now (text .entry)) (now (vars .entry)) n) (now (text .entry)) (seenQualifiers q) (tokenOf (now (text .entry)) token)) ⌝ }
+    ensures { λ r. ⌜ seenRule (now (text .entry)) r ≡ ruleFrom (faultBy (now (text .entry)) (now (vars .entry)) n (now (sizes .entry))) (now (text .entry)) (seenQualifiers q) (tokenOf (now (text .entry)) token) ⌝ }
     ensures profile { λ r. ⌜ profileOf profile r ≡ profile ⌝ }
 {
     let from = token.from.0;
@@ -114,7 +112,7 @@ fn rule_here(
     profile: usize,
     at: Place,
 ) -> Step
-    ensures { λ r. ⌜ (Known (now (text .entry)) (now (vars .entry)) n (now (sizes .entry)) → seenStep (now (text .entry)) r ≡ ruleAt (env (now (text .entry)) (now (vars .entry)) n) (now (text .entry)) (at .0)) ⌝ }
+    ensures { λ r. ⌜ seenStep (now (text .entry)) r ≡ ruleAt (faultBy (now (text .entry)) (now (vars .entry)) n (now (sizes .entry))) (now (text .entry)) (at .0) ⌝ }
     ensures profile { λ r. ⌜ profileIn profile r ≡ profile ⌝ }
 {
     if blanks::stands_at(text, at, b"}") {
@@ -141,7 +139,7 @@ pub fn rule_at(
     profile: usize,
     at: Place,
 ) -> Step
-    ensures { λ r. ⌜ (Known (now (text .entry)) (now (vars .entry)) n (now (sizes .entry)) → seenStep (now (text .entry)) r ≡ ruleAt (env (now (text .entry)) (now (vars .entry)) n) (now (text .entry)) (at .0)) ⌝ }
+    ensures { λ r. ⌜ seenStep (now (text .entry)) r ≡ ruleAt (faultBy (now (text .entry)) (now (vars .entry)) n (now (sizes .entry))) (now (text .entry)) (at .0) ⌝ }
     ensures profile { λ r. ⌜ profileIn profile r ≡ profile ⌝ }
 {
     let place = blanks::standing_at(text, at);

@@ -27,11 +27,12 @@ pub fn with_name(vars: &mut [usize; 1120], w: usize, start: usize, end: usize)
 {
     // A slice, whose length the proof knows.
     let cells = &mut vars[..];
-    if w < 32 {
-        cells[2 * w] = start;
-        cells[2 * w + 1] = end;
-        cells[64 + w] = 0;
+    if 31 < w {
+        return;
     }
+    cells[2 * w] = start;
+    cells[2 * w + 1] = end;
+    cells[64 + w] = 0;
 }
 
 // One value more of variable w, from a to before e in the text.
@@ -63,5 +64,5 @@ pub fn named(text: &[u8], vars: &[usize; 1120], n: usize, start: usize, end: usi
         }
         i -= 1;
     }
-    0
+    i
 }

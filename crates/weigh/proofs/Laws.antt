@@ -1,15 +1,13 @@
 -- What is gathered rule by rule is the findings of the rules.
-use Prim.Native.Nat.{ℕ, suc}
+use Prim.Native.Nat.{ℕ, suc, _<_}
 use mathlib.Core.Path.{_≡_, refl, sym, ap, _∙_}
 use mathlib.Core.List.{List, [], _∷_, _++_, append-assoc, append-nil}
-use mathlib.Core.Bool.{Bool, true, false, not, _||_, _&&_, and-true, and-assoc, or-false}
+use mathlib.Core.Bool.{Bool, true, false, not, _||_, _&&_, and-false, or-false}
 use lib.Bits.{bitOr, or-zero-r}
 use lib.ListN.{length}
-use borrow.Author.Tests.{le-leb}
-use Rattle.scan.specs.Bytes.{every, some, if_then_else_}
+use borrow.Author.Tests.{eq-eqb, le-leb, lt-leb}
+use Rattle.scan.specs.Bytes.{some, if_then_else_}
 use Rattle.perms.specs.Sets.{has, setOf}
-use Rattle.modes.specs.declared.Transition.{Transition}
-use Rattle.modes.specs.declared.Transition.the-variants.{Absent, ByMode}
 use Rattle.perms.proofs.Laws.{set-eq}
 use Rattle.text.specs.Reading.{Reading}
 use Rattle.text.specs.declared.Place.{Place}
@@ -18,14 +16,14 @@ use Rattle.pattern.specs.Expansions.{Variable}
 use Rattle.pattern.specs.Faults.{patternFault}
 use Rattle.matcher.specs.Match.{matchesSome, matchesExactly}
 use Rattle.matcher.specs.Walk.{pathFits}
-use Rattle.glob.specs.Glob.{matchedOf, textFits}
+use Rattle.expand.specs.Write.{textFits}
+use Rattle.glob.specs.Glob.{matchedOf}
 use Rattle.glob.specs.declared.Matched.{Matched}
-use Rattle.glob.proofs.Laws.{matched-good}
-use Rattle.rule.specs.Rules.{Rule}
+use Rattle.rule.specs.Rules.{Rule, Step, ruleAt}
 use Rattle.rule.specs.Places.{ruleOf}
 use Rattle.text.specs.Places.{spanOf}
 use Rattle.rule.specs.declared.Rule as rule
-use Rattle.statement.specs.Steps.{Step, ruleAt, ruleThen, rulesFrom}
+use Rattle.statement.specs.Steps.{ruleThen, rulesFrom}
 use Rattle.statement.specs.Places.{seenStep}
 use Rattle.statement.specs.declared as code
 use Rattle.statement.specs.declared.Step.the-variants as step
@@ -33,11 +31,29 @@ use Rattle.findings.specs.Findings.{Access, Move, Findings, Choice, allows, app
 use Rattle.findings.specs.Weighed.{Weighed, allowing, denying, nothing, weighed, withTransition}
 use Rattle.findings.proofs.Joining.{findings-append}
 use Rattle.findings.proofs.Laws.{choice-by}
-use Rattle.weigh.specs.Weigh.{Fits, weighedBy}
+use Rattle.weigh.specs.Weigh.{Fits, gatheredOf, weighedBy}
 use Rattle.weigh.proofs.Sound.{All, Sound, rule-sound, rules-sound}
 
 pub fitting : {text path : List ℕ} → Fits text path → (textFits text && pathFits path) ≡ true
 fitting {text} f = rw (le-leb (length text) 65535 (f .short)) (f .fits)
+
+matched-fit : (text path : List ℕ) (vs : List Variable) (pattern : List ℕ) → (textFits text && pathFits path) ≡ true → patternFault vs pattern ≡ 0 →
+    matchedOf text vs pattern path ≡ record { some = matchesSome vs pattern path; exact = matchesExactly vs pattern path }
+unfolding matchedOf
+matched-fit text path vs pattern e g = rw (e, eq-eqb (patternFault vs pattern) 0 g)
+
+module _ (text : List ℕ) (vs : List Variable) (a : Access) (k at : ℕ) where
+  pub gathered-long : 65535 < length text → gatheredOf text vs a k at ≡ nothing
+  unfolding gatheredOf
+  gathered-long h = rw (lt-leb (length text) 65535 h)
+
+  pub gathered-far : 4095 < length (a .path) → gatheredOf text vs a k at ≡ nothing
+  unfolding gatheredOf
+  gathered-far h = rw (lt-leb (length (a .path)) 4095 h, and-false (textFits text))
+
+  pub gathered-fit : Fits text (a .path) → gatheredOf text vs a k at ≡ weighed (findings vs a (rulesFrom k (patternFault vs) text at))
+  unfolding gatheredOf
+  gathered-fit f = rw (fitting f)
 
 -- ---- one rule more
 
@@ -110,7 +126,7 @@ module _ (vs : List Variable) (r : Rule) (h : Sound vs r) where
         weighedBy (q .owner) (matchedOf text vs (r .pattern) (q .path)) r (weighed f) ≡ weighed (join f (findings vs q (r ∷ [])))
     weigh-one text fits =
         let e : (textFits text && pathFits (q .path)) ≡ true = fitting fits in
-        ap (λ (m : Matched). weighedBy (q .owner) m r (weighed f)) (sym (matched-good text (q .path) vs (r .pattern) e (h .good) (λ w. refl)))
+        ap (λ (m : Matched). weighedBy (q .owner) m r (weighed f)) (matched-fit text (q .path) vs (r .pattern) e (h .good))
         ∙ sym weigh-joined
 
 -- by what the code asks, where it found x
@@ -163,39 +179,39 @@ module _ (text : List ℕ) (vs : List Variable) (q : Access) (fits : Fits text (
   pub gathered-findings : (rs : List Rule) → All (Sound vs) rs → gathered text vs (q .path) (q .owner) rs nothing ≡ weighed (findings vs q rs)
   gathered-findings rs h = ap (gather rs) none-found ∙ gathered-after [] rs h
 
-  pub gathered-rules : (k at : ℕ) → gathered text vs (q .path) (q .owner) (rulesFrom k vs text at) nothing ≡ weighed (findings vs q (rulesFrom k vs text at))
-  gathered-rules k at = gathered-findings (rulesFrom k vs text at) (rules-sound vs text k at)
+  pub gathered-rules : (k at : ℕ) → gathered text vs (q .path) (q .owner) (rulesFrom k (patternFault vs) text at) nothing ≡ weighed (findings vs q (rulesFrom k (patternFault vs) text at))
+  gathered-rules k at = gathered-findings (rulesFrom k (patternFault vs) text at) (rules-sound vs text k at)
 
 -- ---- by what the code read
 
 module _ (vs : List Variable) (s path : List ℕ) (owner : Bool) (at : ℕ) (w : Weighed) where
-  pub gather-end : gathered s vs path owner (rulesFrom 0 vs s at) w ≡ w
+  pub gather-end : gathered s vs path owner (rulesFrom 0 (patternFault vs) s at) w ≡ w
   unfolding gathered rulesFrom
   gather-end = refl
 
   -- what is gathered from here on is what was read, and then the others
-  from-step : (left : ℕ) (x : code.Step.Step) → seenStep s x ≡ ruleAt vs s at →
-      gathered s vs path owner (rulesFrom (suc left) vs s at) w ≡ gathered s vs path owner (ruleThen (λ r. rulesFrom left vs s (r .next)) (seenStep s x)) w
+  from-step : (left : ℕ) (x : code.Step.Step) → seenStep s x ≡ ruleAt (patternFault vs) s at →
+      gathered s vs path owner (rulesFrom (suc left) (patternFault vs) s at) w ≡ gathered s vs path owner (ruleThen (λ r. rulesFrom left (patternFault vs) s (r .next)) (seenStep s x)) w
   unfolding rulesFrom
-  from-step left x e = ap (λ (y : Reading Step). gathered s vs path owner (ruleThen (λ r. rulesFrom left vs s (r .next)) y) w) (sym e)
+  from-step left x e = ap (λ (y : Reading Step). gathered s vs path owner (ruleThen (λ r. rulesFrom left (patternFault vs) s (r .next)) y) w) (sym e)
 
-  module _ (left : ℕ) {x : code.Step.Step} (e : seenStep s x ≡ ruleAt vs s at) where
+  module _ (left : ℕ) {x : code.Step.Step} (e : seenStep s x ≡ ruleAt (patternFault vs) s at) where
     pub gather-more : {r : rule.Rule} {n : Place} → x ≡ step.Rule r n →
-        gathered s vs path owner (rulesFrom (suc left) vs s at) w
-        ≡ gathered s vs path owner (rulesFrom left vs s (n .0)) (weighedBy owner (matchedOf s vs (spanOf s (r .pattern)) path) (ruleOf s r) w)
+        gathered s vs path owner (rulesFrom (suc left) (patternFault vs) s at) w
+        ≡ gathered s vs path owner (rulesFrom left (patternFault vs) s (n .0)) (weighedBy owner (matchedOf s vs (spanOf s (r .pattern)) path) (ruleOf s r) w)
     unfolding gathered seenStep
     gather-more q = from-step left x e ∙ rw q
 
-    pub gather-close : {n : Place} → x ≡ step.Close n → gathered s vs path owner (rulesFrom (suc left) vs s at) w ≡ w
+    pub gather-close : {n : Place} → x ≡ step.Close n → gathered s vs path owner (rulesFrom (suc left) (patternFault vs) s at) w ≡ w
     unfolding gathered seenStep
     gather-close q = from-step left x e ∙ rw q
 
-    pub gather-refused : {stop : Stop} → x ≡ step.Refused stop → gathered s vs path owner (rulesFrom (suc left) vs s at) w ≡ w
+    pub gather-refused : {stop : Stop} → x ≡ step.Refused stop → gathered s vs path owner (rulesFrom (suc left) (patternFault vs) s at) w ≡ w
     unfolding gathered seenStep
     gather-refused q = from-step left x e ∙ rw q
 
 -- the pattern of a rule that was read has no fault
-pub read-good : (vs : List Variable) (s : List ℕ) (at : ℕ) {x : code.Step.Step} → seenStep s x ≡ ruleAt vs s at → {r : rule.Rule} {n : Place} → x ≡ step.Rule r n
+pub read-good : (vs : List Variable) (s : List ℕ) (at : ℕ) {x : code.Step.Step} → seenStep s x ≡ ruleAt (patternFault vs) s at → {r : rule.Rule} {n : Place} → x ≡ step.Rule r n
     → patternFault vs (spanOf s (r .pattern)) ≡ 0
 unfolding seenStep
 read-good vs s at e {r} {n} q = rule-sound vs s at (record { rule = ruleOf s r; next = n .0 }) (sym e ∙ ap (seenStep s) q) .good

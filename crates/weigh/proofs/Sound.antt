@@ -1,14 +1,12 @@
--- Rules that were read are sound, and so the targets of their transitions fit an answer.
-use Prim.Native.Nat.{ℕ, zero, suc, _+_, _≤_, _<_}
+-- Rules that were read are sound.
+use Prim.Native.Nat.{ℕ, zero, suc, _+_, _<_}
 use Prim.Native.Char.{code}
-use native.Mathlib.Omega.{arith}
 use mathlib.Core.Path.{_≡_, refl, subst}
-use mathlib.Core.List.{List, [], _∷_, _++_}
+use mathlib.Core.List.{List, [], _∷_}
 use mathlib.Core.Bool.{Bool, true, false, not, _||_, _&&_}
-use lib.Dec.{eqb, ltb}
-use lib.ListN.{length, getD, drop}
-use borrow.Author.Tests.{ltb-false}
-use Rattle.scan.specs.Bytes.{bytes, every, holds, same, if_then_else_}
+use lib.Dec.{eqb}
+use lib.ListN.{getD, drop}
+use Rattle.scan.specs.Bytes.{bytes, every, holds, same}
 use Rattle.perms.specs.Sets.{perms}
 use Rattle.modes.specs.Modes.{modes, modeIn}
 use Rattle.perms_word.specs.Words.{carried, letters, modeEnd, modePart, named, permLetter, withMode, wordOf}
@@ -23,20 +21,14 @@ use Rattle.tokens.specs.Tokens.{Token, comma, isWord, tokenAt, wanted}
 use Rattle.blanks.specs.Blanks.{standing, standsAt}
 use Rattle.pattern.specs.Expansions.{Variable}
 use Rattle.pattern.specs.Faults.{patternFault}
-use Rattle.names.specs.Names.{nameForm}
-use Rattle.rule.specs.Rules.{Rule, RuleRead, Qualifiers, patternAt, qualifiersAt, ruleFrom}
-use Rattle.rule_tail.specs.Tails.{Permissions, Target, carriedBy, commaAt, permsAt, takesTarget, targetAt}
-use Rattle.statement.specs.Steps.{Step, More, Close, ruleAt, ruleThen, rulesFrom}
-use Rattle.findings.specs.Findings.{Access, Move, Choice, Single, Several, applies, choice, exactly, findings, moveBy, moves, otherwise, sameMove, those}
+use Rattle.rule.specs.Rules.{Rule, RuleRead, Qualifiers, Step, More, Close, bodyAt, patternAt, qualifiersAt, ruleAt, ruleEnd, ruleFrom}
+use Rattle.rule_tail.specs.Tails.{Permissions, Target, carriedBy, commaAt, permsAt, targetAt}
+use Rattle.statement.specs.Steps.{ruleThen, rulesFrom}
 
--- the pattern has no fault, the permissions are some of the seven, the target fits an answer
+-- the pattern has no fault, the permissions are some of the seven
 pub record Sound (vs : List Variable) (r : Rule) : Type 0 where
   pub good : patternFault vs (r .pattern) ≡ 0
   pub below : r .perms .0 < 128
-  pub short : length (r .target) ≤ 255
-
-abbrev pub ShortMove : Move → Type 0
-ShortMove m = length (m .target) ≤ 255
 
 -- P holds of every element
 abbrev pub All : {A : Type 0} → (A → Type 0) → List A → Type 0
@@ -115,47 +107,19 @@ perms-few deny s at =
     (λ t. unless-then Few (t .quoted || isWord t (bytes ",")) 4 (t .start) (carriedBy t (wordOf deny (t .content)))
     (λ _. carries-few t (wordOf deny (t .content)) (word-below deny (t .content))))
 
--- ---- the target
-
-abbrev ShortTarget : Target → Type 0
-ShortTarget t = length (t .target) ≤ 255
-
-target-short : (tr : Transition) (s : List ℕ) (at : ℕ) → Holds ShortTarget (targetAt tr s at)
-unfolding targetAt
-target-short tr s at = go (standsAt (bytes "->") s at)
-  where
-    -- the name after the ->, once its form is right
-    named-target : Token → Reading Target
-    named-target t = refuseIf (ltb 255 (length (t .content))) 9 (t .start) >>= λ _. Read (record { target = t .content; next = t .next })
-
-    after-arrow : Token → Reading Target
-    after-arrow t = refuseIf (not (nameForm (t .quoted) (t .content))) 4 (t .start) >>= λ _. named-target t
-
-    go : (b : Bool) → Holds ShortTarget (elim b as (λ _. Reading Target) [
-      | false ↦ Read (record { target = []; next = at })
-      | true ↦ refuseIf (not (takesTarget tr)) 8 (standing s at) >>= λ _. wanted s (tokenAt comma s (standing s at + 2)) >>= after-arrow
-    ])
-    go false = omega arith
-    go true =
-        unless-then ShortTarget (not (takesTarget tr)) 8 (standing s at) (wanted s (tokenAt comma s (standing s at + 2)) >>= after-arrow) λ _.
-        any-then ShortTarget (wanted s (tokenAt comma s (standing s at + 2))) after-arrow λ t.
-        unless-then ShortTarget (not (nameForm (t .quoted) (t .content))) 4 (t .start) (named-target t) λ _.
-        unless-then ShortTarget (ltb 255 (length (t .content))) 9 (t .start) (Read (record { target = t .content; next = t .next }))
-        (ltb-false 255 (length (t .content)))
-
 -- ---- a rule
 
 module _ (vs : List Variable) (s : List ℕ) where
   abbrev SoundRule : RuleRead → Type 0
   SoundRule r = Sound vs (r .rule)
 
-  from-sound : (q : Qualifiers) (t : Token) → Holds SoundRule (ruleFrom vs s q t)
-  unfolding ruleFrom
+  from-sound : (q : Qualifiers) (t : Token) → Holds SoundRule (ruleFrom (patternFault vs) s q t)
+  unfolding ruleFrom ruleEnd
   from-sound q t =
-      judged-then SoundRule (patternFault vs (t .content)) (t .start) (permsAt (q .deny) s (t .next) >>= after-perms) λ good.
-      read-then SoundRule Few (permsAt (q .deny) s (t .next)) after-perms (perms-few (q .deny) s (t .next)) λ p few.
-      read-then SoundRule ShortTarget (targetAt (p .transition) s (p .next)) (after-target p) (target-short (p .transition) s (p .next)) λ to short.
-      any-then SoundRule (commaAt s (to .next)) (whole p to) λ n. record { good = good; below = few; short = short }
+      judged-then SoundRule (patternFault vs (t .content)) (t .start) (permsAt (q .deny) s (t .next) >>= ruleEnd s q t) λ good.
+      read-then SoundRule Few (permsAt (q .deny) s (t .next)) (ruleEnd s q t) (perms-few (q .deny) s (t .next)) λ p few.
+      any-then SoundRule (targetAt (p .transition) s (p .next)) (after-target p) λ to.
+      any-then SoundRule (commaAt s (to .next)) (whole p to) λ n. record { good = good; below = few }
     where
       whole : Permissions → Target → ℕ → Reading RuleRead
       whole p to next =
@@ -167,84 +131,33 @@ module _ (vs : List Variable) (s : List ℕ) where
       after-target : Permissions → Target → Reading RuleRead
       after-target p to = commaAt s (to .next) >>= whole p to
 
-      after-perms : Permissions → Reading RuleRead
-      after-perms p = targetAt (p .transition) s (p .next) >>= after-target p
-
   abbrev SoundStep : Step → Type 0
   SoundStep (More r) = SoundRule r
   SoundStep (Close n) = Unit {0}
 
-  step-sound : (at : ℕ) → Holds SoundStep (ruleAt vs s at)
-  unfolding ruleAt
+  step-sound : (at : ℕ) → Holds SoundStep (ruleAt (patternFault vs) s at)
+  unfolding ruleAt bodyAt
   step-sound at = go (standsAt (bytes "}") s at)
     where
       from : Token → Reading Step
-      from t = ruleFrom vs s (qualifiersAt s at) t >>= λ r. Read (More r)
+      from t = ruleFrom (patternFault vs) s (qualifiersAt s at) t >>= λ r. Read (More r)
 
       go : (b : Bool) → Holds SoundStep (elim b as (λ _. Reading Step) [ true ↦ Read (Close (standing s at + 1)) | false ↦ patternAt s (qualifiersAt s at) >>= from ])
       go true = tt
       go false =
           any-then SoundStep (patternAt s (qualifiersAt s at)) from λ t.
-          read-then SoundStep SoundRule (ruleFrom vs s (qualifiersAt s at) t) (λ r. Read (More r)) (from-sound (qualifiersAt s at) t) λ r h. h
+          read-then SoundStep SoundRule (ruleFrom (patternFault vs) s (qualifiersAt s at) t) (λ r. Read (More r)) (from-sound (qualifiersAt s at) t) λ r h. h
 
   -- a rule that was read is sound
-  pub rule-sound : (at : ℕ) (r : RuleRead) → ruleAt vs s at ≡ Read (More r) → Sound vs (r .rule)
+  pub rule-sound : (at : ℕ) (r : RuleRead) → ruleAt (patternFault vs) s at ≡ Read (More r) → Sound vs (r .rule)
   rule-sound at r e = subst (Holds SoundStep) e (step-sound at)
 
-  pub rules-sound : (k at : ℕ) → All (Sound vs) (rulesFrom k vs s at)
+  pub rules-sound : (k at : ℕ) → All (Sound vs) (rulesFrom k (patternFault vs) s at)
   unfolding rulesFrom
   rules-sound zero at = tt
-  rules-sound (suc k) at = go (ruleAt vs s at) (step-sound at) (λ n. rules-sound k n)
+  rules-sound (suc k) at = go (ruleAt (patternFault vs) s at) (step-sound at) (λ n. rules-sound k n)
     where
-      go : (x : Reading Step) → Holds SoundStep x → ((n : ℕ) → All (Sound vs) (rulesFrom k vs s n)) → All (Sound vs) (ruleThen (λ r. rulesFrom k vs s (r .next)) x)
+      go : (x : Reading Step) → Holds SoundStep x → ((n : ℕ) → All (Sound vs) (rulesFrom k (patternFault vs) s n)) → All (Sound vs) (ruleThen (λ r. rulesFrom k (patternFault vs) s (r .next)) x)
       go (Read (More r)) h more = (h, more (r .next))
       go (Read (Close n)) h more = tt
       go (Refused n p) h more = tt
-
--- ---- targets of transitions
-
-those-all : (P : Rule → Type 0) (p : Rule → Bool) (rs : List Rule) → All P rs → All P (those p rs)
-unfolding those
-those-all P p [] h = tt
-those-all P p (r ∷ rs) h = go (p r) (those-all P p rs (h .1))
-  where
-    go : (b : Bool) → All P (those p rs) → All P (elim b as (λ _. List Rule) [ true ↦ r ∷ those p rs | false ↦ those p rs ])
-    go true k = (h .0, k)
-    go false k = k
-
-move-short : (t : Transition) (target : List ℕ) (ms : List Move) → length target ≤ 255 → All ShortMove ms → All ShortMove (moveBy t target ++ ms)
-move-short Absent target ms h k = k
-move-short (ByMode m) target ms h k = (h, k)
-
-moves-short : (vs : List Variable) (p : Rule → Bool) (rs : List Rule) → All (Sound vs) rs → All ShortMove (moves p rs)
-unfolding moves
-moves-short vs p [] h = tt
-moves-short vs p (r ∷ rs) h = go (p r) (moves-short vs p rs (h .1))
-  where
-    go : (b : Bool) → All ShortMove (moves p rs) → All ShortMove (elim b as (λ _. List Move) [ true ↦ moveBy (r .transition) (r .target) ++ moves p rs | false ↦ moves p rs ])
-    go true k = move-short (r .transition) (r .target) (moves p rs) (h .0 .short) k
-    go false k = k
-
-module _ (vs : List Variable) (q : Access) (rs : List Rule) (h : All (Sound vs) rs) where
-  -- the transitions of the matching rules of which p holds
-  pub matching-short : (p : Rule → Bool) → All ShortMove (moves p (those (applies vs q) rs))
-  matching-short p = moves-short vs p (those (applies vs q) rs) (those-all (Sound vs) (applies vs q) rs h)
-
-  pub findings-short : All ShortMove (findings vs q rs .exact) × All ShortMove (findings vs q rs .others)
-  unfolding findings
-  findings-short = (matching-short (exactly vs q), matching-short (otherwise vs q))
-
--- of rules that were read
-pub rules-short : (vs : List Variable) (q : Access) (s : List ℕ) (k at : ℕ) →
-    All ShortMove (findings vs q (rulesFrom k vs s at) .exact) × All ShortMove (findings vs q (rulesFrom k vs s at) .others)
-rules-short vs q s k at = findings-short vs q (rulesFrom k vs s at) (rules-sound vs s k at)
-
--- the only member of a set of transitions is its first
-pub choice-short : (ms : List Move) → All ShortMove ms → (m : Move) → choice ms ≡ Single m → length (m .target) ≤ 255
-unfolding choice
-choice-short [] h m e = let z : _≡_ {A = ℕ} 0 1 = cc in absurd (omega arith)
-choice-short (k ∷ ms) h m e = go (every (sameMove k) ms) e
-  where
-    go : (b : Bool) → _≡_ {A = Choice} (if b then Single k else Several) (Single m) → length (m .target) ≤ 255
-    go true e = let z : k ≡ m = cc in subst ShortMove z (h .0)
-    go false e = let z : _≡_ {A = ℕ} 0 1 = cc in absurd (omega arith)

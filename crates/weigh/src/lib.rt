@@ -5,6 +5,7 @@ use findings::Findings;
 use findings::allow;
 use findings::deny;
 use glob::match_good;
+use measure::sizes_of;
 use perms::Perms;
 use rule::Rule;
 use statement::Step;
@@ -16,13 +17,13 @@ ghost use Prim.Native.Nat.{ℕ};
 ghost use Rattle.pattern.specs.Faults.{patternFault};
 ghost use Rattle.pattern.specs.Table.{env};
 ghost use Rattle.sizes.specs.Sizes.{Known};
-ghost use Rattle.glob.specs.Glob.{matchedOf};
+ghost use Rattle.glob.specs.Glob.{matchedIn};
 ghost use Rattle.rule.specs.Places.{ruleOf};
 ghost use Rattle.text.specs.Places.{spanOf};
 ghost use Rattle.statement.specs.Steps.{rulesFrom};
 ghost use Rattle.findings.specs.Findings.{findings};
 ghost use Rattle.findings.specs.Weighed.{nothing, seenFindings, weighed};
-ghost use Rattle.weigh.specs.Weigh.{Fits, weighedBy};
+ghost use Rattle.weigh.specs.Weigh.{Fits, gatheredOf, weighedBy};
 
 // The findings of no rule.
 fn no_findings() -> Findings
@@ -42,7 +43,7 @@ fn no_findings() -> Findings
     }
 }
 
-// The findings with one rule more, whose pattern has no fault, under the first n variables, whose sizes are known.
+// The findings with one rule more, under the first n variables and their sizes.
 fn weigh(
     text: &[u8],
     vars: &[usize; 1120],
@@ -53,11 +54,8 @@ fn weigh(
     rule: Rule,
     found: Findings,
 ) -> Findings
-    ensures { λ r. ⌜ (Known (now (text .entry)) (now (vars .entry)) n (now (sizes .entry)) →
-        Fits (now (text .entry)) (now (path .entry)) →
-        patternFault (env (now (text .entry)) (now (vars .entry)) n) (spanOf (now (text .entry)) (rule .pattern)) ≡ 0 →
-        seenFindings (now (text .entry)) r
-        ≡ weighedBy owner (matchedOf (now (text .entry)) (env (now (text .entry)) (now (vars .entry)) n) (spanOf (now (text .entry)) (rule .pattern)) (now (path .entry))) (ruleOf (now (text .entry)) rule) (seenFindings (now (text .entry)) found)) ⌝ }
+    ensures { λ r. ⌜ seenFindings (now (text .entry)) r
+        ≡ weighedBy owner (matchedIn (now (text .entry)) (now (vars .entry)) n (now (sizes .entry)) (spanOf (now (text .entry)) (rule .pattern)) (now (path .entry))) (ruleOf (now (text .entry)) rule) (seenFindings (now (text .entry)) found) ⌝ }
 {
     if rule.owner & !owner {
         return found;
@@ -73,8 +71,8 @@ fn weigh(
     found
 }
 
-// The findings of count rules from a place on.
-pub fn findings_of(
+// The findings of count rules from a place on, where the text and the path fit and the sizes of the first n variables are known.
+fn gather(
     text: &[u8],
     vars: &[usize; 1120],
     n: usize,
@@ -84,10 +82,10 @@ pub fn findings_of(
     count: usize,
     at: Place,
 ) -> Findings
-    ensures { λ r. ⌜ (Known (now (text .entry)) (now (vars .entry)) n (now (sizes .entry)) →
-        Fits (now (text .entry)) (now (path .entry)) →
-        seenFindings (now (text .entry)) r
-        ≡ weighed (findings (env (now (text .entry)) (now (vars .entry)) n) (record { path = now (path .entry); owner = owner }) (rulesFrom count (env (now (text .entry)) (now (vars .entry)) n) (now (text .entry)) (at .0)))) ⌝ }
+    requires { ⌜ Known (now text) (now vars) n (now sizes) ⌝ }
+    requires { ⌜ Fits (now text) (now path) ⌝ }
+    ensures { λ r. ⌜ seenFindings (now (text .entry)) r
+        ≡ weighed (findings (env (now (text .entry)) (now (vars .entry)) n) (record { path = now (path .entry); owner = owner }) (rulesFrom count (patternFault (env (now (text .entry)) (now (vars .entry)) n)) (now (text .entry)) (at .0))) ⌝ }
 {
     let mut found = no_findings();
     let mut place = at;
@@ -109,4 +107,27 @@ pub fn findings_of(
         }
     }
     found
+}
+
+// The findings of count rules from a place on, under the first n variables; none where the text or the path is too long to be answered.
+pub fn findings_of(
+    text: &[u8],
+    vars: &[usize; 1120],
+    n: usize,
+    path: &[u8],
+    owner: bool,
+    count: usize,
+    at: Place,
+) -> Findings
+    ensures { λ r. ⌜ seenFindings (now (text .entry)) r
+        ≡ gatheredOf (now (text .entry)) (env (now (text .entry)) (now (vars .entry)) n) (record { path = now (path .entry); owner = owner }) count (at .0) ⌝ }
+{
+    if 65535 < text.len() {
+        return no_findings();
+    }
+    if 4095 < path.len() {
+        return no_findings();
+    }
+    let known = sizes_of(text, vars, n);
+    gather(text, vars, n, &known.table, path, owner, count, at)
 }

@@ -1,16 +1,16 @@
 use denote.Ref.{now}
 use Prim.Native.Nat.{ℕ}
-use mathlib.Core.Path.{_≡_, sym, ap, ap₂, _∙_, subst}
+use mathlib.Core.Path.{_≡_, ap, ap₂, _∙_}
 use mathlib.Core.Bool.{Bool}
-use Rattle.perms.specs.Sets.{perms, setOf}
+use Rattle.perms.specs.Sets.{perms}
 use Rattle.perms.specs.declared.Perms.{Perms}
+use Rattle.modes.specs.declared.Execute.{Execute}
 use Rattle.findings.specs.Findings.{Choice}
-use Rattle.findings.specs.Weighed.{Weighed, seenChoice, seenFindings, weighed}
-use Rattle.answer.specs.Answers.{answerFrom, executeOf, grants, isMode, moveOf, namedBy, records, targetOf}
-use Rattle.answer.specs.Parts.{targetBy}
-use Rattle.answer.specs.Short.{Short}
+use Rattle.findings.specs.Weighed.{seenChoice, seenFindings}
+use Rattle.answer.specs.Answers.{executeBy, isMode, namedBy, targetOf}
+use Rattle.answer.specs.Parts.{answerTo, firstOf, targetBy}
 use Rattle.answer.specs.declared.Verdict.the-variants.{Answered}
-use Rattle.answer.proofs.Laws.{execute-is, granted-is, move-is, named-target, recorded-is}
+use Rattle.answer.proofs.Laws.{execute-is, granted-is, named-target, recorded-is}
 use borrow.Author.Needs.{needs}
 use Rattle.answer.proofs.finish.Statement.{statement}
 use Rattle.answer.proofs.finish.Tie as tie
@@ -37,21 +37,22 @@ target-of-requires : tie.Need-target-of-requires
 target-of-requires c κs = search needs
 
 returns : tie.Need-returns
-unfolding answerFrom seenFindings weighed
-returns c = λ f e short.
+unfolding answerTo seenFindings
+returns c =
     let s = now (c .before .before .before .before .before .before .before .before .args .text) in
+    let w = seenFindings s (c .before .before .before .before .before .before .before .before .args .found) in
     let asked : ℕ = c .before .before .before .before .before .before .before .before .args .asked .0 in
     let wanted : ℕ = c .before .before .before .before .before .before .both .result .0 in
     let masks = ap (λ (p : Perms). p .0) (c .before .before .before .before .before .before .both .ensures) in
-    let allowed = ap (λ (w : Weighed). w .allowed) e in
-    let denied = ap (λ (w : Weighed). w .denied) e in
-    let move : seenChoice s (c .before .before .before .before .before .prefer .result) ≡ moveOf f = c .before .before .before .before .before .prefer .ensures s ∙ move-is f _ _ (ap (λ (w : Weighed). w .exact) e) (ap (λ (w : Weighed). w .others) e) in
-    let execute : c .before .before .before .before .execute-of .result ≡ executeOf f asked = c .before .before .before .before .execute-of .ensures s ∙ execute-is f asked wanted masks _ _ denied move in
-    let mode : c .before .before .before .is-mode .result ≡ isMode (executeOf f asked) = c .before .before .before .is-mode .ensures ∙ ap isMode execute in
-    let granted : c .before .before .granted-of .result .0 ≡ setOf 7 (grants f asked) = granted-is f asked wanted masks _ _ _ _ allowed denied mode (c .before .before .granted-of .ensures) in
-    let recorded : c .before .recorded-of .result .0 ≡ setOf 7 (records f asked) = recorded-is f asked wanted masks _ _ _ _ _ granted (ap (λ (w : Weighed). w .allowedAudit) e) denied (ap (λ (w : Weighed). w .deniedAudit) e) (c .before .recorded-of .ensures) in
-    let target : c .target-of .result ≡ targetOf (namedBy (executeOf f asked) (moveOf f)) =
-    c .target-of .ensures (subst Short (sym move) short) ∙ ap₂ (λ (b : Bool) (c : Choice). targetOf (targetBy b c)) mode move ∙ ap targetOf (named-target (executeOf f asked) (moveOf f)) in
+    let t : Choice = firstOf (w .exact) (w .others) in
+    let x : Execute = executeBy asked (w .denied) t in
+    let move : seenChoice s (c .before .before .before .before .before .prefer .result) ≡ t = c .before .before .before .before .before .prefer .ensures s in
+    let execute : c .before .before .before .before .execute-of .result ≡ x = c .before .before .before .before .execute-of .ensures s ∙ ap (executeBy wanted (w .denied)) move ∙ execute-is w asked wanted masks t in
+    let mode : c .before .before .before .is-mode .result ≡ isMode x = c .before .before .before .is-mode .ensures ∙ ap isMode execute in
+    let granted = granted-is w asked wanted masks x _ _ mode (c .before .before .granted-of .ensures) in
+    let recorded = recorded-is w asked wanted masks x _ _ granted (c .before .recorded-of .ensures) in
+    let target : c .target-of .result ≡ targetOf (namedBy x t) =
+    c .target-of .ensures ∙ ap₂ (λ (b : Bool) (c : Choice). targetOf (targetBy b c)) mode move ∙ ap targetOf (named-target x t) in
     λ i. record { verdict = Answered; granted = perms (granted i); recorded = perms (recorded i); execute = execute i; target = target i }
 
 pub finish-spec : {M : Type 1} → statement M

@@ -1,4 +1,3 @@
-use denote.Ref.{now}
 use mathlib.Core.Path.{ap, _∙_}
 use borrow.Author.Tests.{not-true, not-false}
 use Rattle.findings.specs.Weighed.{seenChoice}
@@ -12,7 +11,7 @@ no-target-requires c κs = search needs
 
 returns : tie.Need-returns
 unfolding seenChoice
-returns c = λ h. rw (not-true (c .before .before .before .args .mode) (c .before .if1 .taken)) (c .no-target .ensures)
+returns c = rw (not-true (c .before .before .before .args .mode) (c .before .if1 .taken)) (c .no-target .ensures)
 
 enum-told : tie.Need-enum-told
 enum-told c = search needs
@@ -37,15 +36,15 @@ no-target-requires-3 c κs = search needs
 
 returns-2 : tie.Need-returns-2
 unfolding seenChoice
-returns-2 c = λ h. rw (not-false (c .before .before .before .before .before .args .mode) (c .before .before .before .if1 .left), c .before .enum-told .given .1) (c .no-target2 .ensures)
+returns-2 c = rw (not-false (c .before .before .before .before .before .args .mode) (c .before .before .before .if1 .left), c .before .enum-told .given .1) (c .no-target2 .ensures)
 
 returns-3 : tie.Need-returns-3
 unfolding seenChoice
-returns-3 c = λ h. rw (not-false (c .before .before .before .before .before .before .before .args .mode) (c .before .before .before .before .before .if1 .left), c .before .before .before .choice .given .1) (c .target-from .ensures (rw (c .before .span .ensures) (h _ (ap (seenChoice (now (c .before .before .before .before .before .before .before .args .text))) (c .before .before .before .choice .given .1)))) ∙ ap targetOf (c .before .span .ensures))
+returns-3 c = rw (not-false (c .before .before .before .before .before .before .before .args .mode) (c .before .before .before .before .before .if1 .left), c .before .before .before .choice .given .1) (c .target-from .ensures ∙ ap targetOf (c .before .span .ensures))
 
 returns-4 : tie.Need-returns-4
 unfolding seenChoice
-returns-4 c = λ h. rw (not-false (c .before .before .before .before .before .args .mode) (c .before .before .before .if1 .left), c .before .enum-told2 .given .1) (c .no-target3 .ensures)
+returns-4 c = rw (not-false (c .before .before .before .before .before .args .mode) (c .before .before .before .if1 .left), c .before .enum-told2 .given .1) (c .no-target3 .ensures)
 
 pub target-of-spec : {M : Type 1} → statement M
 target-of-spec =

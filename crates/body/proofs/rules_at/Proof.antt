@@ -3,8 +3,7 @@ use denote.Ref.{now}
 use native.Mathlib.Omega.{arith}
 use Prim.Native.Nat.{suc, _+_, _≤_, _-_}
 use mathlib.Core.Path.{_≡_, sym, _∙_}
-use Rattle.pattern.specs.Table.{env}
-use Rattle.sizes.specs.Sizes.{Known}
+use Rattle.faults.specs.Sized.{faultBy}
 use Rattle.rule.specs.Rules.{rulesAt}
 use Rattle.statement.specs.Steps.{counted}
 use Rattle.body.specs.Places.{seenRules}
@@ -15,13 +14,13 @@ use Rattle.body.proofs.rules_at.Tie as tie
 abbrev Inv-loop : tie.InvT-loop
 Inv-loop text vars n sizes left place₀ count₀ place count =
     (count ≤ left)
-    × (Known text vars n sizes → countedFrom count (rulesAt (left - count) (env text vars n) text (place .0)) ≡ counted (rulesAt left (env text vars n) text (place₀ .0)))
+    × (countedFrom count (rulesAt (left - count) (faultBy text vars n sizes) text (place .0)) ≡ counted (rulesAt left (faultBy text vars n sizes) text (place₀ .0)))
 
 abbrev μ-loop : tie.MeasureT-loop
 μ-loop text vars n sizes left place₀ count₀ place count = left - count
 
 loop-holds : tie.Need-loop-holds Inv-loop μ-loop
-loop-holds c = let e : c .before .args .left - 0 ≡ c .before .args .left = omega arith in (omega arith, λ k. rw e (from-none _))
+loop-holds c = let e : c .before .args .left - 0 ≡ c .before .args .left = omega arith in (omega arith, rw e (from-none _))
 
 rule-at-requires : tie.Need-rule-at-requires Inv-loop μ-loop
 rule-at-requires c κs = search needs
@@ -39,9 +38,9 @@ loop-again : tie.Need-loop-again Inv-loop μ-loop
 loop-again c =
     let l = (c .before .before .before .before .before .loop) in
     let a = (c .before .before .before .before .before .before .before .args) in
-    let vs = env (now (a .text)) (now (a .vars)) (a .n) in
+    let f = faultBy (now (a .text)) (now (a .vars)) (a .n) (now (a .sizes)) in
     let e : a .left - l .count ≡ suc (a .left - (l .count + 1)) = omega arith in
-    (omega arith, λ k. sym (count-more vs (now (a .text)) (l .place .0) (l .count) (a .left - (l .count + 1)) (c .before .before .before .rule-at .ensures .0 k) (c .before .r .given .1)) ∙ (rw e at (l .inv .1 k)))
+    (omega arith, sym (count-more f (now (a .text)) (l .place .0) (l .count) (a .left - (l .count + 1)) (c .before .before .before .rule-at .ensures .0) (c .before .r .given .1)) ∙ (rw e at (l .inv .1)))
 
 enum-known-r-2 : tie.Need-enum-known-r-2 Inv-loop μ-loop
 enum-known-r-2 c = search needs
@@ -51,9 +50,9 @@ unfolding seenRules
 returns c =
     let l = (c .before .before .before .before .before .loop) in
     let a = (c .before .before .before .before .before .before .before .args) in
-    let vs = env (now (a .text)) (now (a .vars)) (a .n) in
+    let f = faultBy (now (a .text)) (now (a .vars)) (a .n) (now (a .sizes)) in
     let e : a .left - l .count ≡ suc (a .left - (l .count + 1)) = omega arith in
-    λ k. sym (count-close vs (now (a .text)) (l .place .0) (l .count) (a .left - (l .count + 1)) (c .before .before .before .rule-at .ensures .0 k) (c .before .r2 .given .1)) ∙ (rw e at (l .inv .1 k))
+    sym (count-close f (now (a .text)) (l .place .0) (l .count) (a .left - (l .count + 1)) (c .before .before .before .rule-at .ensures .0) (c .before .r2 .given .1)) ∙ (rw e at (l .inv .1))
 
 enum-known-r-3 : tie.Need-enum-known-r-3 Inv-loop μ-loop
 enum-known-r-3 c = search needs
@@ -63,9 +62,9 @@ unfolding seenRules
 returns-2 c =
     let l = (c .before .before .before .before .before .loop) in
     let a = (c .before .before .before .before .before .before .before .args) in
-    let vs = env (now (a .text)) (now (a .vars)) (a .n) in
+    let f = faultBy (now (a .text)) (now (a .vars)) (a .n) (now (a .sizes)) in
     let e : a .left - l .count ≡ suc (a .left - (l .count + 1)) = omega arith in
-    λ k. sym (count-refused vs (now (a .text)) (l .place .0) (l .count) (a .left - (l .count + 1)) (c .before .before .before .rule-at .ensures .0 k) (c .before .r3 .given .1)) ∙ (rw e at (l .inv .1 k))
+    sym (count-refused f (now (a .text)) (l .place .0) (l .count) (a .left - (l .count + 1)) (c .before .before .before .rule-at .ensures .0) (c .before .r3 .given .1)) ∙ (rw e at (l .inv .1))
 
 rules-end-requires : tie.Need-rules-end-requires Inv-loop μ-loop
 rules-end-requires c κs = search needs
@@ -74,9 +73,9 @@ returns-3 : tie.Need-returns-3 Inv-loop μ-loop
 returns-3 c =
     let l = (c .before .before .loop) in
     let a = (c .before .before .before .before .args) in
-    let vs = env (now (a .text)) (now (a .vars)) (a .n) in
+    let f = faultBy (now (a .text)) (now (a .vars)) (a .n) (now (a .sizes)) in
     let e : a .left - l .count ≡ 0 = omega arith in
-    λ k. c .rules-end .ensures ∙ sym (count-end vs (now (a .text)) (l .place .0) (l .count)) ∙ (rw e at (l .inv .1 k))
+    c .rules-end .ensures ∙ sym (count-end f (now (a .text)) (l .place .0) (l .count)) ∙ (rw e at (l .inv .1))
 
 pub rules-at-spec : {M : Type 1} → statement M
 rules-at-spec =

@@ -5,8 +5,9 @@ use mathlib.Core.Path.{sym, _∙_}
 use lib.ListN.{length}
 use Rattle.scan.specs.Bytes.{bytes}
 use Rattle.blanks.specs.Blanks.{standing}
-use Rattle.statement.specs.Steps.{endAt}
-use Rattle.rule.specs.Places.{seenGot}
+use Rattle.rule.specs.Rules.{bodyAt, endAt}
+use Rattle.rule.proofs.Laws.{pattern-from}
+use Rattle.rule.specs.Places.{seenGot, seenQualifiers}
 use Rattle.body.specs.Places.{seenRules}
 use Rattle.blanks.proofs.Laws.{stands-inside}
 use borrow.Author.Needs.{needs}
@@ -30,8 +31,8 @@ add-t14 c =
     omega (arith, c .standing-at .ensures)
 
 returns : tie.Need-returns
-unfolding endAt seenRules bytes
-returns c = rw (c .standing-at .ensures, ← c .before .before .stands-at .ensures, c .before .if1 .taken, endAt)
+unfolding endAt bodyAt seenRules bytes
+returns c = rw (c .standing-at .ensures, ← c .before .before .stands-at .ensures, c .before .if1 .taken, bodyAt)
 
 qualifiers-at-requires : tie.Need-qualifiers-at-requires
 qualifiers-at-requires c κs = search needs
@@ -46,12 +47,12 @@ enum-known-t : tie.Need-enum-known-t
 enum-known-t c = search needs
 
 returns-2 : tie.Need-returns-2
-unfolding endAt seenGot seenRules bytes
-returns-2 c = rw (← c .before .before .before .before .before .before .stands-at .ensures, c .before .before .before .before .before .if1 .left, ← c .before .before .before .before .qualifiers-at .ensures .is, ← c .before .before .before .pattern-at .ensures (c .before .before .before .before .qualifiers-at .ensures .token), c .before .stop .given .1, seenGot, endAt)
+unfolding endAt bodyAt seenGot seenRules bytes
+returns-2 c = rw (← c .before .before .before .before .before .before .stands-at .ensures, c .before .before .before .before .before .if1 .left, ← c .before .before .before .before .qualifiers-at .ensures .is, ← pattern-from _ (seenQualifiers (c .before .before .before .before .qualifiers-at .result)) (c .before .before .before .before .qualifiers-at .ensures .token), ← c .before .before .before .pattern-at .ensures, c .before .stop .given .1, seenGot, bodyAt)
 
 returns-3 : tie.Need-returns-3
-unfolding endAt seenGot seenRules bytes
-returns-3 c = rw (← c .before .before .before .before .before .before .before .stands-at .ensures, c .before .before .before .before .before .before .if1 .left, ← c .before .before .before .before .before .qualifiers-at .ensures .is, ← c .before .before .before .before .pattern-at .ensures (c .before .before .before .before .before .qualifiers-at .ensures .token), c .before .before .t .given .1, seenGot, endAt)
+unfolding endAt bodyAt seenGot seenRules bytes
+returns-3 c = rw (← c .before .before .before .before .before .before .before .stands-at .ensures, c .before .before .before .before .before .before .if1 .left, ← c .before .before .before .before .before .qualifiers-at .ensures .is, ← pattern-from _ (seenQualifiers (c .before .before .before .before .before .qualifiers-at .result)) (c .before .before .before .before .before .qualifiers-at .ensures .token), ← c .before .before .before .before .pattern-at .ensures, c .before .before .t .given .1, seenGot, bodyAt)
 
 pub rules-end-spec : {M : Type 1} → statement M
 rules-end-spec =

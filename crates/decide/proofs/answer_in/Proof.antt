@@ -1,9 +1,14 @@
 use denote.Ref.{now}
-use mathlib.Core.Path.{sym, _∙_}
+use mathlib.Core.Path.{sym, ap, _∙_}
+use Rattle.pattern.specs.Faults.{patternFault}
 use Rattle.pattern.specs.Table.{env}
 use Rattle.statement.specs.Steps.{rulesFrom}
 use Rattle.findings.specs.Findings.{Access, findings}
-use Rattle.decide.proofs.Laws.{answer-by, move-short}
+use Rattle.findings.specs.Weighed.{Weighed}
+use Rattle.answer.specs.Parts.{answerTo}
+use Rattle.answer.proofs.Laws.{answer-gathered}
+use Rattle.weigh.proofs.Laws.{gathered-fit}
+use Rattle.decide.proofs.Laws.{answer-by}
 use borrow.Author.Needs.{needs}
 use Rattle.decide.proofs.answer_in.Statement.{statement}
 use Rattle.decide.proofs.answer_in.Tie as tie
@@ -46,7 +51,9 @@ returns-2 c =
     let q : Access = record { path = now (c-args .path); owner = c-args .owner } in
     let k = c-r .given .0 .1 .0 in
     let at = c-r .given .0 .0 .0 in
-    c .finish .ensures (findings vs q (rulesFrom k vs s at)) (c .before .findings-of .ensures (c-pre .1 .0) (c-pre .1 .1)) (move-short vs q s k at)
+    c .finish .ensures
+    ∙ ap (λ (w : Weighed). answerTo w (c-args .asked .0)) (c .before .findings-of .ensures ∙ gathered-fit s vs q k at (c-pre .1))
+    ∙ answer-gathered (findings vs q (rulesFrom k (patternFault vs) s at)) (c-args .asked .0)
     ∙ sym (answer-by vs q (c-args .asked .0) s (now (c-args .profiles)) (c-args .count) (now (c-args .name)) (c-find .result) (c-find .ensures) _ (c-r .given .1))
 
 pub answer-in-spec : {M : Type 1} → statement M

@@ -60,23 +60,23 @@ returns-4 c =
 
 answer-in-requires : tie.Need-answer-in-requires
 answer-in-requires c κs =
+    let c-read = c .before .before .before .before .before .read in
+    let c-if2 = c .before .before .before .before .before .before .before .before .before .if2 in
+    let c-is-bad-path = c .before .before .before .before .before .before .before .before .before .before .is-bad-path in
+    let c-if1 = c .before .before .before .before .before .before .before .before .before .before .before .if1 in
+    let c-args = c .before .before .before .before .before .before .before .before .before .before .before .before .before .before .before .args in
+    (c-read .ensures .1, record { short = c-if1 .left; fits = good-fits (now (c-args .path)) (sym (c-is-bad-path .ensures) ∙ c-if2 .left) })
+
+returns-5 : tie.Need-returns-5
+returns-5 c =
+    let c-if4 = c .before .before .before .before .if4 in
     let c-read = c .before .before .before .before .before .before .read in
+    let c-if3 = c .before .before .before .before .before .before .before .before .if3 in
+    let c-is-bad-asked = c .before .before .before .before .before .before .before .before .before .is-bad-asked in
     let c-if2 = c .before .before .before .before .before .before .before .before .before .before .if2 in
     let c-is-bad-path = c .before .before .before .before .before .before .before .before .before .before .before .is-bad-path in
     let c-if1 = c .before .before .before .before .before .before .before .before .before .before .before .before .if1 in
     let c-args = c .before .before .before .before .before .before .before .before .before .before .before .before .before .before .before .before .args in
-    (c-read .ensures .1 .1, (c-read .ensures .1 .0, record { short = c-if1 .left; fits = good-fits (now (c-args .path)) (sym (c-is-bad-path .ensures) ∙ c-if2 .left) }))
-
-returns-5 : tie.Need-returns-5
-returns-5 c =
-    let c-if4 = c .before .before .before .before .before .if4 in
-    let c-read = c .before .before .before .before .before .before .before .read in
-    let c-if3 = c .before .before .before .before .before .before .before .before .before .if3 in
-    let c-is-bad-asked = c .before .before .before .before .before .before .before .before .before .before .is-bad-asked in
-    let c-if2 = c .before .before .before .before .before .before .before .before .before .before .before .if2 in
-    let c-is-bad-path = c .before .before .before .before .before .before .before .before .before .before .before .before .is-bad-path in
-    let c-if1 = c .before .before .before .before .before .before .before .before .before .before .before .before .before .if1 in
-    let c-args = c .before .before .before .before .before .before .before .before .before .before .before .before .before .before .before .before .before .args in
     answer-accepted (now (c-args .text)) (now (c-args .name)) (now (c-args .path)) (c-args .asked .0) (c-args .owner) (c-if1 .left) (sym (c-is-bad-path .ensures) ∙ c-if2 .left) (sym (c-is-bad-asked .ensures) ∙ c-if3 .left) _ (c-read .result) (c-read .ensures .0) (c-if4 .left) (c .answer-in .ensures)
 
 pub decide-spec : {M : Type 1} → statement M

@@ -1,24 +1,19 @@
 use borrow.Author.Needs.{needs}
 use native.Mathlib.Omega.{arith}
 use denote.Ref.{now}
-use mathlib.Core.Path.{_≡_, refl, sym, ap, _∙_}
-use Prim.Native.Nat.{_+_, _-_, _*_, _≤_, ℕ, _<_}
-use mathlib.Core.List.{List, [], _∷_}
-use lib.ListN.{length, getD, drop}
+use mathlib.Core.Path.{_≡_, sym, ap, _∙_}
+use Prim.Native.Nat.{_+_, _-_, _*_, _≤_, ℕ, _<_, min}
+use mathlib.Core.List.{List}
+use lib.ListN.{length, drop}
 use Rattle.scan.specs.Bytes.{span}
 use Rattle.pattern.specs.Pieces.{parts}
 use Rattle.pattern.specs.Places.{partAt}
-use Rattle.pattern.specs.Codes.{decode}
 use Rattle.pattern.specs.Reads.{codeOf, seenPart}
-use Rattle.pattern.specs.Expansions.{listing, ofParts, ofName}
-use Rattle.pattern.specs.Table.{env, ofNumber}
+use Rattle.pattern.specs.Expansions.{ofParts}
 use Rattle.pattern.proofs.Laws.{partEnd-le, partEnd-more}
-use Rattle.sizes.specs.Sizes.{partChoices, valueChoices}
-use Rattle.sizes.proofs.Laws.{size-count, known-fewer}
-use Rattle.sizes.proofs.Loops.{parts-more, parts-none}
-use Rattle.expand.specs.Write.{Asked}
-use Rattle.expand.proofs.Laws.{Writing, writing-none, writing-turn, writing-all, chosen-writes, named-le, named-choices, wrote-only}
-use native.Mathlib.Nat.{not-suc-le-zero}
+use Rattle.sizes.specs.Numbered.{numbering, nameBy, partBy, valueBy}
+use Rattle.sizes.proofs.Steps.{parts-next, parts-last}
+use Rattle.expand.proofs.Laws.{wrote-nil, Writing, writing-none, writing-turn, writing-all, named-le, named-none, named-some}
 use borrow.Author.Tests.{lt-ltb}
 use borrow.Fn.Kinds.{In}
 use borrow.Fn.PlainCycle.{Measures, is, falls, and}
@@ -116,8 +111,9 @@ write-part-returns t c =
     let c-args = c .before .before .before .before .before .before .before .args in
     let c-named = c .before .named in
     let c-p2 = c .before .before .before .p2 in
-    let e = named-choices (now (c-args .text)) (now (c-args .vars)) (c-args .n) (c-named .result) (c-p2 .given .0 .0) (c-p2 .given .0 .1 .0) (c-named .ensures) (c-args .p) (c-p2 .given .1) in
-    λ q k. absurd (not-suc-le-zero (rw (e, c .if1 .taken) at (q .within)))
+    let text = now (c-args .text) in
+    rw (named-none text (now (c-args .vars)) (c-args .n) (c-named .result) (c-p2 .given .0 .0) (c-p2 .given .0 .1 .0) (c-named .ensures) (now (c-args .sizes)) (c-args .d) (c-args .p) (c-p2 .given .1) (c .if1 .taken))
+    (wrote-nil text (now (c-args .out)) (c-args .m) (c .before .before .before .before .before .before .before .pre .1 .0 .room))
 
 write-part-sub-pick-value : (t : ℕ) → write-part-lts.Need-sub-pick-value (part-claims t) (write-part-at t) write-part.Post
 write-part-sub-pick-value t c = search needs
@@ -135,9 +131,10 @@ write-part-sub-write-value t c = search needs
 write-part-write-value-requires : (t : ℕ) → write-part-lts.Need-write-value-requires (part-claims t) (write-part-at t) write-part.Post
 write-part-write-value-requires t c κs =
     let c-args = c .before .before .before .before .before .before .before .before .before .args in
+    let c-pre = c .before .before .before .before .before .before .before .before .before .pre in
     let c-named = c .before .before .before .named in
     let c-p2 = c .before .before .before .before .before .p2 in
-    (omega (arith, c .before .before .before .before .before .before .before .before .before .pre .0, named-le (now (c-args .text)) (now (c-args .vars)) (c-args .n) (c-named .result) (c-p2 .given .0 .0) (c-p2 .given .0 .1 .0) (c-named .ensures), c .before .before .if1 .left), search needs)
+    (omega (arith, c-pre .0, named-le (now (c-args .text)) (now (c-args .vars)) (c-args .n) (c-named .result) (c-p2 .given .0 .0) (c-p2 .given .0 .1 .0) (c-named .ensures), c .before .before .if1 .left), c-pre .1 .0)
 
 write-part-enum-told : (t : ℕ) → write-part-lts.Need-enum-told (part-claims t) (write-part-at t) write-part.Post
 write-part-enum-told t c = search needs
@@ -149,11 +146,11 @@ write-part-returns-2 : (t : ℕ) → write-part-lts.Need-returns-2 (part-claims 
 write-part-returns-2 t c =
     let c-p = c .before .before .before .before .before .before .p in
     let c-args = c .before .before .before .before .before .before .before .before .before .before .args in
+    let c-pre = c .before .before .before .before .before .before .before .before .before .before .pre in
     let c-piece-code = c .before .before .before .piece-code in
-    λ q k.
-    let f : codeOf (c-p .given .0 .0) ≤ 65536 + length (now (c-args .text)) = rw (c-p .given .1) at k in
-    let g : c-piece-code .result ≡ codeOf (c-p .given .0 .0) = c-piece-code .ensures ∙ rw (lt-ltb (codeOf (c-p .given .0 .0)) 4294967296 (omega (arith, q .short))) in
-    wrote-only (now (c-args .text)) (partChoices (env (now (c-args .text)) (now (c-args .vars)) (c-args .n)) (seenPart (now (c-args .text)) (c-args .p))) (decode (now (c-args .text)) (c-piece-code .result) ∷ []) (c-args .d) (rw (c-p .given .1, g)) (q .within) (c .before .before .push .ensures (q .room) (now (c-args .text)))
+    let f : codeOf (c-p .given .0 .0) ≤ 65536 + length (now (c-args .text)) = rw (c-p .given .1) at (c-pre .1 .1) in
+    let g : codeOf (c-p .given .0 .0) ≡ c-piece-code .result = sym (c-piece-code .ensures ∙ rw (lt-ltb (codeOf (c-p .given .0 .0)) 4294967296 (omega (arith, c-pre .1 .0 .short)))) in
+    rw (c-p .given .1, g) (c .before .before .push .ensures (now (c-args .text)))
 
 write-part-same-length-2 : (t : ℕ) → write-part-lts.Need-same-length-2 (part-claims t) (write-part-at t) write-part.Post
 write-part-same-length-2 t c = search needs
@@ -163,22 +160,17 @@ write-part-returns-3 t c =
     let c-args = c .before .before .before .before .before .before .before .before .before .before .before .before .args in
     let c-named = c .before .before .before .before .before .before .named in
     let c-p2 = c .before .before .before .before .before .before .before .before .p2 in
-    let xs = partChoices (env (now (c-args .text)) (now (c-args .vars)) (c-args .n)) (seenPart (now (c-args .text)) (c-args .p)) in
-    let ys = ofNumber listing (now (c-args .text)) (now (c-args .vars)) (c-named .result - 1 + 1) in
-    let h = named-le (now (c-args .text)) (now (c-args .vars)) (c-args .n) (c-named .result) (c-p2 .given .0 .0) (c-p2 .given .0 .1 .0) (c-named .ensures) in
-    let i : c-named .result - 1 + 1 ≡ c-named .result = omega (arith, c .before .before .before .before .before .if1 .left) in
-    let e : xs ≡ ys = rw i (named-choices (now (c-args .text)) (now (c-args .vars)) (c-args .n) (c-named .result) (c-p2 .given .0 .0) (c-p2 .given .0 .1 .0) (c-named .ensures) (c-args .p) (c-p2 .given .1)) in
-    λ q k.
-    let known = known-fewer {k = c-named .result - 1} (q .known) (omega arith) in
-    chosen-writes xs ys e q known (c .before .before .before .before .pick-value .ensures known (q .small) (rw e at (q .within))) (c .before .before .write-value .ensures)
+    rw (named-some (now (c-args .text)) (now (c-args .vars)) (c-args .n) (c-named .result) (c-p2 .given .0 .0) (c-p2 .given .0 .1 .0) (c-named .ensures) (now (c-args .sizes)) (c-args .d) (c-args .p) (c-p2 .given .1) (omega (arith, c .before .before .before .before .before .if1 .left)), ← c .before .before .before .before .pick-value .ensures)
+    (c .before .before .write-value .ensures)
 
 write-part-returns-4 : (t : ℕ) → write-part-lts.Need-returns-4 (part-claims t) (write-part-at t) write-part.Post
-write-part-returns-4 t c = λ q k. absurd (not-suc-le-zero (rw (c .enum-told .given .1) at (q .within)))
+write-part-returns-4 t c =
+    let c-args = c .before .before .before .before .args in
+    rw (c .enum-told .given .1) (wrote-nil (now (c-args .text)) (now (c-args .out)) (c-args .m) (c .before .before .before .before .pre .1 .0 .room))
 
 abbrev write-value-Inv-loop : write-value-lts.InvT-loop
 write-value-Inv-loop n text vars sizes a e d out₀ m s left₀ w₀ at₀ out left w at =
-    (length out ≡ length out₀)
-    × (Asked text vars n sizes (valueChoices (env text vars n) (span text a e)) d out₀ m → Writing text out₀ m out w left (ofParts listing (ofName listing (env text vars n)) (parts 0 (drop at s))) (getD (valueChoices (env text vars n) (span text a e)) d []))
+    Writing text out₀ m out w (ofParts numbering (nameBy text vars sizes (min 32 n)) (parts 0 (drop at s)) .nth left) (valueBy text vars n sizes (span text a e) .nth d)
 
 abbrev write-value-μ-loop : write-value-lts.MeasureT-loop
 write-value-μ-loop n text vars sizes a e d out₀ m s left₀ w₀ at₀ out left w at = length s - at
@@ -187,7 +179,7 @@ write-value-span-requires : (t : ℕ) → write-value-lts.Need-span-requires (va
 write-value-span-requires t c κs = search needs
 
 write-value-loop-holds : (t : ℕ) → write-value-lts.Need-loop-holds (value-claims t) (write-value-at t) write-value.Post write-value-Inv-loop write-value-μ-loop
-write-value-loop-holds t c = (refl, λ q. rw (c .span .ensures) (writing-none q))
+write-value-loop-holds t c = rw (c .span .ensures) (writing-none (c .before .before .before .pre .1 .room))
 
 write-value-part-at-requires : (t : ℕ) → write-value-lts.Need-part-at-requires (value-claims t) (write-value-at t) write-value.Post write-value-Inv-loop write-value-μ-loop
 write-value-part-at-requires t c κs = search needs
@@ -199,7 +191,10 @@ write-value-low-requires : (t : ℕ) → write-value-lts.Need-low-requires (valu
 write-value-low-requires t c κs = search needs
 
 write-value-write-part-requires : (t : ℕ) → write-value-lts.Need-write-part-requires (value-claims t) (write-value-at t) write-value.Post write-value-Inv-loop write-value-μ-loop
-write-value-write-part-requires t c κs = (omega (arith, c .before .before .before .before .before .before .before .before .before .pre .0), search needs)
+write-value-write-part-requires t c κs =
+    let c-loop = c .before .before .before .before .before .loop in
+    let c-pre = c .before .before .before .before .before .before .before .before .before .pre in
+    (omega (arith, c-pre .0), (record { short = c-pre .1 .short; room = omega (arith, c-loop .inv .wrote .size, c-loop .inv .wrote .fits) }, c .before .before .before .part-at .ensures .fits))
 
 write-value-high-requires : (t : ℕ) → write-value-lts.Need-high-requires (value-claims t) (write-value-at t) write-value.Post write-value-Inv-loop write-value-μ-loop
 write-value-high-requires t c κs = search needs
@@ -220,16 +215,15 @@ write-value-loop-again t c =
     let c-part-at = c .before .before .before .before .before .before .before .before .part-at in
     let c-part-end = c .part-end in
     let c-span = c .before .before .before .before .before .before .before .before .before .before .before .span in
-    let vs = env (now (c-args .text)) (now (c-args .vars)) (c-args .n) in
-    let p = seenPart (now (c-args .text)) (c-part-at .result) in (
-      search needs,
-      λ q.
-          writing-turn (c-loop .inv .1 q) (partChoices vs p) (ofParts listing (ofName listing vs) (parts 0 (drop (c-part-end .result) (now (c-span .result)))))
-          (size-count (partChoices vs p) (c .before .before .before .before .before .before .before .part-size .ensures (q .known)))
-          (parts-more (ofName listing vs) (now (c-span .result)) (c-loop .at) p (c-part-end .result) (search needs) (c-part-at .ensures .is ∙ ap (λ (l : List ℕ). partAt l (c-loop .at)) (sym (c-span .ensures))) (c-part-end .ensures))
-          (q .known) (q .short) (c .before .before .before .before .before .before .low .ensures) (c .before .high .ensures)
-          (λ asks. c .before .before .before .before .write-part .ensures asks (c-part-at .ensures .fits)),
-    )
+    let text = now (c-args .text) in
+    let vars = now (c-args .vars) in
+    let table = now (c-args .sizes) in
+    let s = now (c-span .result) in
+    let names = nameBy text vars table (min 32 (c-args .n)) in
+    let p = seenPart text (c-part-at .result) in
+    writing-turn _ (partBy text vars (c-args .n) table p) (ofParts numbering names (parts 0 (drop (c-part-end .result) s))) (c-loop .inv)
+    (parts-next numbering names s (c-loop .at) p (c-part-end .result) (search needs) (c-part-at .ensures .is ∙ ap (λ (l : List ℕ). partAt l (c-loop .at)) (sym (c-span .ensures))) (c-part-end .ensures))
+    (c .before .before .before .before .before .before .before .part-size .ensures) (c .before .before .before .before .before .before .low .ensures) (c .before .high .ensures) (c .before .before .before .before .write-part .ensures)
 
 write-value-same-length : (t : ℕ) → write-value-lts.Need-same-length (value-claims t) (write-value-at t) write-value.Post write-value-Inv-loop write-value-μ-loop
 write-value-same-length t c = search needs
@@ -238,7 +232,8 @@ write-value-returns : (t : ℕ) → write-value-lts.Need-returns (value-claims t
 write-value-returns t c =
     let c-loop = c .before .loop in
     let c-args = c .before .before .before .before .before .args in
-    λ q. writing-all (c-loop .inv .1 q) (parts-none (ofName listing (env (now (c-args .text)) (now (c-args .vars)) (c-args .n))) (now (c .before .before .span .result)) (c-loop .at) (search needs))
+    let names = nameBy (now (c-args .text)) (now (c-args .vars)) (now (c-args .sizes)) (min 32 (c-args .n)) in
+    writing-all _ (c-loop .inv) (parts-last numbering names (now (c .before .before .span .result)) (c-loop .at) (search needs))
 
 pub +write-part+write-value-spec : {M : Type 1} → statement M
 +write-part+write-value-spec = close μ-write-part μ-write-value (λ t. write-part-lts.spec (part-claims t)

@@ -1,21 +1,17 @@
 use borrow.Author.Needs.{needs}
 use native.Mathlib.Omega.{arith}
 use denote.Ref.{now}
-use mathlib.Core.Path.{refl}
-use Prim.Native.Nat.{_+_, _-_, _*_, _≤_, _<_}
-use mathlib.Core.List.{[]}
-use lib.ListN.{length, getD}
-use Rattle.pattern.specs.Expansions.{listing, oneOf, ofName}
-use Rattle.pattern.specs.Table.{bytesAt, env, ofNumber, valuesFrom}
-use Rattle.sizes.specs.Sizes.{Known, valueChoices}
-use Rattle.sizes.proofs.Laws.{size-count}
-use Rattle.sizes.proofs.Loops.{values-more, values-none, values-all}
-use Rattle.expand.proofs.Laws.{Choosing, choosing-here, choosing-there, choosing-none, choosing-chosen}
+use mathlib.Core.Path.{_≡_, ap}
+use Prim.Native.Nat.{_+_, _-_, _*_, _≤_, min}
+use Rattle.pattern.specs.Table.{valuesFrom, valuesOf}
+use Rattle.sizes.specs.Numbered.{Numbered, numbering, nameBy, oneBy}
+use Rattle.sizes.proofs.Steps.{values-whole}
+use Rattle.expand.proofs.Laws.{value-here, value-there, value-nowhere}
 use Rattle.expand.proofs.pick_value.Statement.{statement}
 use Rattle.expand.proofs.pick_value.Tie as tie
 
 abbrev Inv-loop : tie.InvT-loop
-Inv-loop text vars w sizes d m left₀ k₀ left k = (k ≤ m) × (Known text vars w sizes → d < 257 → d < length (ofNumber listing text vars (w + 1)) → Choosing left (oneOf listing (ofName listing (env text vars w)) (valuesFrom text vars (m - k) (16 * w + k))) (getD (ofNumber listing text vars (w + 1)) d []))
+Inv-loop text vars w sizes d m left₀ k₀ left k = (k ≤ m) × (oneBy text vars w sizes (valuesFrom text vars (m - k) (16 * w + k)) .nth left ≡ oneBy text vars w sizes (valuesOf text vars w) .nth d)
 
 abbrev μ-loop : tie.MeasureT-loop
 μ-loop text vars w sizes d m left₀ k₀ left k = m - k
@@ -35,8 +31,8 @@ least-requires c κs = search needs
 loop-holds : tie.Need-loop-holds Inv-loop μ-loop
 loop-holds c =
     let c-args = c .before .before .before .args in
-    let c-least = c .least in
-    (omega arith, λ k h g. rw (values-all (now (c-args .text)) (now (c-args .vars)) (c-args .w) (c-least .result) (search needs) (c-least .ensures)) (record { small = h; within = g; same = refl }))
+    let names = nameBy (now (c-args .text)) (now (c-args .vars)) (now (c-args .sizes)) (min 32 (c-args .w)) in
+    (omega arith, ap (λ (x : Numbered). x .nth (c-args .d)) (values-whole numbering names (now (c-args .text)) (now (c-args .vars)) (c-args .w) (c .least .result) (c .least .ensures)))
 
 mul-j : tie.Need-mul-j Inv-loop μ-loop
 mul-j c = search needs
@@ -72,10 +68,8 @@ returns : tie.Need-returns Inv-loop μ-loop
 returns c =
     let c-loop = c .before .before .before .before .before .loop in
     let c-args = c .before .before .before .before .before .before .before .before .before .args in
-    let c-least = c .before .before .before .before .before .before .least in
-    λ k h g. choosing-chosen (choosing-here (c-loop .inv .1 k h g) (valueChoices (env (now (c-args .text)) (now (c-args .vars)) (c-args .w)) (bytesAt (now (c-args .text)) (now (c-args .vars)) (96 + 2 * (16 * c-args .w + c-loop .k))))
-    (oneOf listing (ofName listing (env (now (c-args .text)) (now (c-args .vars)) (c-args .w))) (valuesFrom (now (c-args .text)) (now (c-args .vars)) (c-least .result - (c-loop .k + 1)) (16 * c-args .w + (c-loop .k + 1)))) (size-count (valueChoices (env (now (c-args .text)) (now (c-args .vars)) (c-args .w)) (bytesAt (now (c-args .text)) (now (c-args .vars)) (96 + 2 * (16 * c-args .w + c-loop .k)))) (c .before .value-size .ensures k))
-    (values-more (ofName listing (env (now (c-args .text)) (now (c-args .vars)) (c-args .w))) (now (c-args .text)) (now (c-args .vars)) (c-least .result) (c-loop .k) (16 * c-args .w) (search needs)) (c .if1 .taken))
+    let names = nameBy (now (c-args .text)) (now (c-args .vars)) (now (c-args .sizes)) (min 32 (c-args .w)) in
+    value-here names (c-loop .left) (now (c-args .text)) (now (c-args .vars)) (c .before .before .before .before .before .before .least .result) (c-loop .k) (16 * c-args .w) (c-loop .inv .1) (search needs) (c .before .value-size .ensures) (c .if1 .taken)
 
 add-k : tie.Need-add-k Inv-loop μ-loop
 add-k c = search needs
@@ -87,18 +81,15 @@ loop-again : tie.Need-loop-again Inv-loop μ-loop
 loop-again c =
     let c-loop = c .before .before .before .before .before .loop in
     let c-args = c .before .before .before .before .before .before .before .before .before .args in
-    let c-least = c .before .before .before .before .before .before .least in (
-      omega arith,
-      λ k h g. choosing-there (c-loop .inv .1 k h g) (valueChoices (env (now (c-args .text)) (now (c-args .vars)) (c-args .w)) (bytesAt (now (c-args .text)) (now (c-args .vars)) (96 + 2 * (16 * c-args .w + c-loop .k))))
-          (oneOf listing (ofName listing (env (now (c-args .text)) (now (c-args .vars)) (c-args .w))) (valuesFrom (now (c-args .text)) (now (c-args .vars)) (c-least .result - (c-loop .k + 1)) (16 * c-args .w + (c-loop .k + 1)))) (size-count (valueChoices (env (now (c-args .text)) (now (c-args .vars)) (c-args .w)) (bytesAt (now (c-args .text)) (now (c-args .vars)) (96 + 2 * (16 * c-args .w + c-loop .k)))) (c .before .value-size .ensures k))
-          (values-more (ofName listing (env (now (c-args .text)) (now (c-args .vars)) (c-args .w))) (now (c-args .text)) (now (c-args .vars)) (c-least .result) (c-loop .k) (16 * c-args .w) (search needs)) (c .if1 .left),
-    )
+    let names = nameBy (now (c-args .text)) (now (c-args .vars)) (now (c-args .sizes)) (min 32 (c-args .w)) in
+    (omega arith, value-there names (c-loop .left) (now (c-args .text)) (now (c-args .vars)) (c .before .before .before .before .before .before .least .result) (c-loop .k) (16 * c-args .w) (c-loop .inv .1) (search needs) (c .before .value-size .ensures) (c .if1 .left))
 
 returns-2 : tie.Need-returns-2 Inv-loop μ-loop
 returns-2 c =
     let c-loop = c .before .loop in
     let c-args = c .before .before .before .before .before .args in
-    λ k h g. absurd (choosing-none (c-loop .inv .1 k h g) (values-none (ofName listing (env (now (c-args .text)) (now (c-args .vars)) (c-args .w))) (now (c-args .text)) (now (c-args .vars)) (c .before .before .least .result) (c-loop .k) (16 * c-args .w) (search needs)))
+    let names = nameBy (now (c-args .text)) (now (c-args .vars)) (now (c-args .sizes)) (min 32 (c-args .w)) in
+    value-nowhere names (c-loop .left) (now (c-args .text)) (now (c-args .vars)) (c .before .before .least .result) (c-loop .k) (16 * c-args .w) (c-loop .inv .1) (search needs)
 
 pub pick-value-spec : {M : Type 1} → statement M
 pick-value-spec =

@@ -21,12 +21,12 @@ same-length c = search needs
 returns : tie.Need-returns
 returns c =
     let c-args = c .before .args in
-    λ h text. wrote-push text (now (c-args .out)) (c-args .m) (c-args .code) (c .if1 .taken)
+    λ text. wrote-push text (now (c-args .out)) (c-args .m) (c-args .code) (c .if1 .taken)
 
 returns-2 : tie.Need-returns-2
 returns-2 c =
     let c-args = c .before .args in
-    λ h text. wrote-full text (now (c-args .out)) (c-args .m) (decode text (c-args .code) ∷ []) (c .if1 .left) h
+    λ text. wrote-full text (now (c-args .out)) (c-args .m) (decode text (c-args .code) ∷ []) (c .if1 .left) (c .before .pre)
 
 pub push-spec : {M : Type 1} → statement M
 push-spec = tie.close (tie.spec mul-out slice-write-out add-result same-length returns returns-2)

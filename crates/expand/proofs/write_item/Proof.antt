@@ -1,12 +1,10 @@
 use denote.Ref.{now}
 use mathlib.Core.Path.{_≡_, sym, ap, _∙_}
 use Rattle.scan.specs.Bytes.{span}
-use Rattle.pattern.specs.Items.{Single, alternatives}
+use Rattle.pattern.specs.Items.{Single}
 use Rattle.pattern.specs.Places.{itemAt}
 use Rattle.pattern.specs.Reads.{seenPart}
-use Rattle.pattern.specs.Table.{env}
-use Rattle.sizes.specs.Sizes.{oneChoices, itemChoices}
-use Rattle.expand.proofs.Laws.{chosen-writes, item-read, item-single}
+use Rattle.expand.proofs.Laws.{item-read, item-single}
 use borrow.Author.Needs.{needs}
 use Rattle.expand.proofs.write_item.Statement.{statement}
 use Rattle.expand.proofs.write_item.Tie as tie
@@ -21,7 +19,7 @@ part-at-requires : tie.Need-part-at-requires
 part-at-requires c κs = search needs
 
 write-part-requires : tie.Need-write-part-requires
-write-part-requires c κs = search needs
+write-part-requires c κs = (c .before .before .before .before .before .before .before .pre, c .before .part-at .ensures .fits)
 
 enum-known-i : tie.Need-enum-known-i
 enum-known-i c = search needs
@@ -38,12 +36,13 @@ same-length c = search needs
 returns : tie.Need-returns
 returns c =
     let c-args = c .before .before .before .before .before .before .before .before .before .before .args in
+    let c-item-at = c .before .before .before .before .before .before .before .item-at in
     let c-part-at = c .before .before .before .before .part-at in
     let text = now (c-args .text) in
     let s = span text (c-args .a) (c-args .e) in
-    let read = item-read text s (c-args .at) (c .before .before .before .before .before .before .before .item-at .result) _ (c .before .before .before .before .before .before .before .item-at .ensures) (c .before .before .before .before .before .enum-told .given .1) in
+    let read = item-read text s (c-args .at) (c-item-at .result) _ (c-item-at .ensures) (c .before .before .before .before .before .enum-told .given .1) in
     let e : itemAt s (c-args .at) ≡ Single (seenPart text (c-part-at .result)) = item-single s (c-args .at) _ read ∙ ap Single (sym (c-part-at .ensures .is)) in
-    λ q. rw e (c .before .before .write-part .ensures (rw e at q) (c-part-at .ensures .fits))
+    rw e (c .before .before .write-part .ensures)
 
 same-length-2 : tie.Need-same-length-2
 same-length-2 c = search needs
@@ -51,14 +50,10 @@ same-length-2 c = search needs
 returns-2 : tie.Need-returns-2
 returns-2 c =
     let c-args = c .before .before .before .before .before .before .before .before .before .before .before .args in
-    let c-i = c .before .before .before .before .before .before .i in
+    let c-item-at = c .before .before .before .before .before .before .before .before .item-at in
     let text = now (c-args .text) in
-    let vs = env text (now (c-args .vars)) (c-args .n) in
-    let s = span text (c-args .a) (c-args .e) in
-    let xs = itemChoices vs (itemAt s (c-args .at)) in
-    let ys = oneChoices vs (alternatives (span text (c-i .given .0 .0) (c-i .given .0 .1 .0))) in
-    let e : xs ≡ ys = ap (itemChoices vs) (item-read text s (c-args .at) (c .before .before .before .before .before .before .before .before .item-at .result) _ (c .before .before .before .before .before .before .before .before .item-at .ensures) (c-i .given .1)) in
-    λ q. chosen-writes xs ys e q (q .known) (c .before .before .before .before .pick-alternative .ensures (q .known) (q .small) (rw e at (q .within))) (c .before .before .write-value .ensures)
+    rw (item-read text (span text (c-args .a) (c-args .e)) (c-args .at) (c-item-at .result) _ (c-item-at .ensures) (c .before .before .before .before .before .before .i .given .1), ← c .before .before .before .before .pick-alternative .ensures)
+    (c .before .before .write-value .ensures)
 
 pub write-item-spec : {M : Type 1} → statement M
 write-item-spec =

@@ -1,6 +1,5 @@
 use denote.Ref.{now}
 use Rattle.scan.specs.Bytes.{span}
-use Rattle.pattern.specs.Table.{env}
 use Rattle.faults.proofs.Laws.{pattern-too-long, pattern-sized, pattern-unset, pattern-bad}
 use borrow.Author.Needs.{needs}
 use Rattle.faults.proofs.pattern_fault.Statement.{statement}
@@ -13,7 +12,7 @@ returns : tie.Need-returns
 returns c =
     let a = c .before .before .before .args in
     let s = c .before .span in
-    λ k. pattern-too-long (env (now (a .text)) (now (a .vars)) (a .n)) (span (now (a .text)) (a .a) (a .e)) (now (s .result)) (s .ensures) (c .if1 .taken)
+    pattern-too-long (now (a .text)) (now (a .vars)) (a .n) (now (a .sizes)) (span (now (a .text)) (a .a) (a .e)) (now (s .result)) (s .ensures) (c .if1 .taken)
 
 pattern-form-requires : tie.Need-pattern-form-requires
 pattern-form-requires c κs = search needs
@@ -31,20 +30,20 @@ returns-2 : tie.Need-returns-2
 returns-2 c =
     let a = c .before .before .before .before .before .before .before .before .before .args in
     let s = c .before .before .before .before .before .before .before .span in
-    λ k. pattern-sized (env (now (a .text)) (now (a .vars)) (a .n)) (span (now (a .text)) (a .a) (a .e)) (now (s .result)) (s .ensures) (c .before .before .before .before .before .before .if1 .left) (c .before .before .before .before .if2 .taken) (c .before .before .before .before .before .pattern-form .ensures) (c .before .before .if3 .taken) (c .before .before .before .pattern-names .ensures)
-    (c .before .pattern-size .ensures k) (c .size-fault .ensures)
+    pattern-sized (now (a .text)) (now (a .vars)) (a .n) (now (a .sizes)) (span (now (a .text)) (a .a) (a .e)) (now (s .result)) (s .ensures) (c .before .before .before .before .before .before .if1 .left) (c .before .before .before .before .if2 .taken) (c .before .before .before .before .before .pattern-form .ensures) (c .before .before .if3 .taken) (c .before .before .before .pattern-names .ensures)
+    (c .before .pattern-size .ensures) (c .size-fault .ensures)
 
 returns-3 : tie.Need-returns-3
 returns-3 c =
     let a = c .before .before .before .before .before .before .before .args in
     let s = c .before .before .before .before .before .span in
-    λ k. pattern-unset (env (now (a .text)) (now (a .vars)) (a .n)) (span (now (a .text)) (a .a) (a .e)) (now (s .result)) (s .ensures) (c .before .before .before .before .if1 .left) (c .before .before .if2 .taken) (c .before .before .before .pattern-form .ensures) (c .if3 .left) (c .before .pattern-names .ensures)
+    pattern-unset (now (a .text)) (now (a .vars)) (a .n) (now (a .sizes)) (span (now (a .text)) (a .a) (a .e)) (now (s .result)) (s .ensures) (c .before .before .before .before .if1 .left) (c .before .before .if2 .taken) (c .before .before .before .pattern-form .ensures) (c .if3 .left) (c .before .pattern-names .ensures)
 
 returns-4 : tie.Need-returns-4
 returns-4 c =
     let a = c .before .before .before .before .before .args in
     let s = c .before .before .before .span in
-    λ k. pattern-bad (env (now (a .text)) (now (a .vars)) (a .n)) (span (now (a .text)) (a .a) (a .e)) (now (s .result)) (s .ensures) (c .before .before .if1 .left) (c .if2 .left) (c .before .pattern-form .ensures)
+    pattern-bad (now (a .text)) (now (a .vars)) (a .n) (now (a .sizes)) (span (now (a .text)) (a .a) (a .e)) (now (s .result)) (s .ensures) (c .before .before .if1 .left) (c .if2 .left) (c .before .pattern-form .ensures)
 
 pub pattern-fault-spec : {M : Type 1} → statement M
 pattern-fault-spec =

@@ -1,4 +1,3 @@
-use borrow.Author.Needs.{needs}
 use Rattle.faults.specs.Sized.{sizeFault}
 use Rattle.faults.proofs.size_fault.Statement.{statement}
 use Rattle.faults.proofs.size_fault.Tie as tie

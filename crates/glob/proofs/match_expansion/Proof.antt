@@ -1,9 +1,5 @@
 use native.Mathlib.Omega.{arith}
 use denote.Ref.{now}
-use Rattle.scan.specs.Bytes.{span}
-use Rattle.pattern.specs.Expansions.{expansions}
-use Rattle.pattern.specs.Table.{env}
-use Rattle.expand.proofs.Laws.{wrote-whole}
 use Rattle.codes.proofs.Laws.{joins-decode}
 use Rattle.glob.proofs.Laws.{expansion-matched}
 use borrow.Author.Needs.{needs}
@@ -24,11 +20,9 @@ matched-requires c κs = search needs
 
 returns : tie.Need-returns
 returns c =
-    let a = (c .before .before .before .before .before .before .before .before .before .before .before .before .args) in
-    let text = now (a .text) in
-    let xs = expansions (env text (now (a .vars)) (a .n)) (span text (a .a) (a .e)) in
-    λ k w h. expansion-matched (now (a .path)) (w .fits)
-    (wrote-whole text _ _ (c .before .before .before .before .before .before .before .before .write-pattern .result) (a .d) xs (omega (arith, w .room)) (c .before .before .before .before .before .before .before .before .write-pattern .ensures k (w .short) (omega (arith, w .few)) h))
+    let c-args = c .before .before .before .before .before .before .before .before .before .before .before .before .args in
+    let text = now (c-args .text) in
+    expansion-matched text (now (c-args .path)) _ (c .before .before .before .before .before .before .before .before .before .before .before .before .pre) (c .before .before .before .before .before .before .before .before .write-pattern .ensures) (omega arith)
     (c .before .before .before .before .before .is-literal .ensures text) (joins-decode text (c .before .before .before .join-slashes .ensures)) (c .matched .ensures)
 
 pub match-expansion-spec : {M : Type 1} → statement M

@@ -1,24 +1,17 @@
 use borrow.Author.Needs.{needs}
 use native.Mathlib.Omega.{arith}
-use Prim.Native.Nat.{ℕ, _-_, _<_, _≤_, min}
-use mathlib.Core.Path.{_≡_, sym, _∙_}
+use Prim.Native.Nat.{_-_, _≤_}
+use mathlib.Core.Path.{ap}
 use denote.Ref.{now}
-use lib.ListN.{length}
 use Rattle.scan.specs.Bytes.{span}
-use Rattle.pattern.specs.Expansions.{expansions}
-use Rattle.pattern.specs.Table.{env}
-use Rattle.sizes.specs.Sizes.{Known}
-use Rattle.sizes.proofs.Laws.{size-count}
-use Rattle.glob.specs.Glob.{Within}
-use Rattle.glob.proofs.Laws.{Tried, tried-none, tried-more, tried-found, tried-all, by-all}
+use Rattle.sizes.specs.declared.Size.{Size}
+use Rattle.sizes.specs.Numbered.{patternBy}
+use Rattle.glob.proofs.Laws.{Tried, tried-none, tried-more, tried-found, tried-all}
 use Rattle.glob.proofs.match_expansions.Statement.{statement}
 use Rattle.glob.proofs.match_expansions.Tie as tie
 
 abbrev Inv-loop : tie.InvT-loop
-Inv-loop text vars n sizes a e path count codes₀ some₀ d₀ codes some d =
-    (d ≤ count)
-    × (Known text vars n sizes → Within text (expansions (env text vars n) (span text a e)) path →
-    Tried path (expansions (env text vars n) (span text a e)) d some)
+Inv-loop text vars n sizes a e path count codes₀ some₀ d₀ codes some d = Tried (patternBy text vars n sizes (span text a e)) path d some × (d ≤ count)
 
 abbrev μ-loop : tie.MeasureT-loop
 μ-loop text vars n sizes a e path count codes₀ some₀ d₀ codes some d = count - d
@@ -28,22 +21,18 @@ pattern-size-requires c κs = search needs
 
 loop-holds : tie.Need-loop-holds Inv-loop μ-loop
 loop-holds c =
-    let a = (c .before .before .before .args) in
-    let vs = env (now (a .text)) (now (a .vars)) (a .n) in
-    let s = span (now (a .text)) (a .a) (a .e) in
-    (search needs, λ k w. tried-none (now (a .path)) (expansions vs s))
+    let c-args = c .before .before .before .args in
+    let a = patternBy (now (c-args .text)) (now (c-args .vars)) (c-args .n) (now (c-args .sizes)) (span (now (c-args .text)) (c-args .a) (c-args .e)) in
+    (tried-none a (now (c-args .path)), search needs)
 
 match-expansion-requires : tie.Need-match-expansion-requires Inv-loop μ-loop
 match-expansion-requires c κs = search needs
 
 returns : tie.Need-returns Inv-loop μ-loop
 returns c =
-    let a = (c .before .before .before .before .before .before .before .before .args) in
-    let vs = env (now (a .text)) (now (a .vars)) (a .n) in
-    let s = span (now (a .text)) (a .a) (a .e) in
-    λ k w.
-    let few : c .before .before .before .before .loop .d < length (expansions vs s) = omega (arith, size-count (expansions vs s) (c .before .before .before .before .before .pattern-size .ensures k), w .few) in
-    tried-found (now (a .path)) (expansions vs s) (c .before .before .before .before .loop .inv .1 k w) few (c .before .match-expansion .ensures k w few) (c .if1 .taken) ∙ by-all vs s (now (a .path))
+    let c-args = c .before .before .before .before .before .before .before .before .args in
+    let a = patternBy (now (c-args .text)) (now (c-args .vars)) (c-args .n) (now (c-args .sizes)) (span (now (c-args .text)) (c-args .a) (c-args .e)) in
+    rw (← c .before .before .before .before .before .pattern-size .ensures) (tried-found a (now (c-args .path)) (c .before .match-expansion .ensures) (c .before .before .before .before .before .pattern-size .result .count) (search needs) (c .if1 .taken))
 
 add-d : tie.Need-add-d Inv-loop μ-loop
 add-d c = search needs
@@ -53,21 +42,16 @@ loop-less c = search needs
 
 loop-again : tie.Need-loop-again Inv-loop μ-loop
 loop-again c =
-    let a = (c .before .before .before .before .before .before .before .before .before .args) in
-    let vs = env (now (a .text)) (now (a .vars)) (a .n) in
-    let s = span (now (a .text)) (a .a) (a .e) in (
-      omega arith,
-      λ k w.
-          let few : c .before .before .before .before .before .loop .d < length (expansions vs s) = omega (arith, size-count (expansions vs s) (c .before .before .before .before .before .before .pattern-size .ensures k), w .few) in
-          tried-more (now (a .path)) (expansions vs s) (c .before .before .before .before .before .loop .inv .1 k w) few (c .before .before .match-expansion .ensures k w few) (c .before .if1 .left),
-    )
+    let c-args = c .before .before .before .before .before .before .before .before .before .args in
+    let a = patternBy (now (c-args .text)) (now (c-args .vars)) (c-args .n) (now (c-args .sizes)) (span (now (c-args .text)) (c-args .a) (c-args .e)) in
+    (tried-more a (now (c-args .path)) (c .before .before .match-expansion .ensures) (c .before .before .before .before .before .loop .inv .0) (c .before .if1 .left), omega arith)
 
 returns-2 : tie.Need-returns-2 Inv-loop μ-loop
 returns-2 c =
-    let a = (c .before .before .before .before .before .args) in
-    let vs = env (now (a .text)) (now (a .vars)) (a .n) in
-    let s = span (now (a .text)) (a .a) (a .e) in
-    λ k w. tried-all (now (a .path)) (expansions vs s) (c .before .loop .inv .1 k w) (omega (arith, size-count (expansions vs s) (c .before .before .pattern-size .ensures k), w .few)) ∙ by-all vs s (now (a .path))
+    let c-args = c .before .before .before .before .before .args in
+    let a = patternBy (now (c-args .text)) (now (c-args .vars)) (c-args .n) (now (c-args .sizes)) (span (now (c-args .text)) (c-args .a) (c-args .e)) in
+    let e = ap (λ (z : Size). z .count) (c .before .before .pattern-size .ensures) in
+    tried-all a (now (c-args .path)) (c .before .loop .inv .0) (a .size .count) (omega arith)
 
 pub match-expansions-spec : {M : Type 1} → statement M
 match-expansions-spec =

@@ -1,22 +1,19 @@
 use borrow.Author.Needs.{needs}
 use native.Mathlib.Omega.{arith}
 use denote.Ref.{now}
-use mathlib.Core.Path.{refl, ap, _∙_}
-use Prim.Native.Nat.{ℕ, _+_, _-_, _≤_}
+use mathlib.Core.Path.{ap, _∙_}
+use Prim.Native.Nat.{ℕ, _-_, _≤_, min}
 use mathlib.Core.List.{List}
 use lib.ListN.{length, drop}
-use Rattle.pattern.specs.Table.{env}
 use Rattle.pattern.proofs.Laws.{seek-le}
-use Rattle.sizes.specs.Sizes.{sizeOf, Known, valueChoices, oneChoices}
-use Rattle.scan.specs.Bytes.{span}
+use Rattle.sizes.specs.Numbered.{nameBy, oneBy}
 use Rattle.pattern.specs.Items.{alternatives}
-use Rattle.pattern.specs.Expansions.{listing, oneOf, ofName}
-use Rattle.sizes.proofs.Loops.{Summed, summed-none, summed-more, summed-all, alternative-more, alternative-last, span-most}
+use Rattle.sizes.proofs.Loops.{Summed, oneFrom, one-first, alternative-more, alternative-all, span-most}
 use Rattle.measure.proofs.among_size.Statement.{statement}
 use Rattle.measure.proofs.among_size.Tie as tie
 
 abbrev Inv-loop : tie.InvT-loop
-Inv-loop text vars n sizes a e s size₀ i₀ size i = (i ≤ length s) × (Known text vars n sizes → Summed size (oneOf listing (ofName listing (env text vars n)) (alternatives (drop i s))) (oneChoices (env text vars n) (alternatives s)))
+Inv-loop text vars n sizes a e s size₀ i₀ size i = (i ≤ length s) × Summed size (oneFrom (nameBy text vars sizes (min 32 n)) (alternatives (drop i s))) (oneBy text vars n sizes (alternatives s) .size)
 
 abbrev μ-loop : tie.MeasureT-loop
 μ-loop text vars n sizes a e s size₀ i₀ size i = length s - i
@@ -28,7 +25,7 @@ no-size-requires : tie.Need-no-size-requires Inv-loop μ-loop
 no-size-requires c κs = search needs
 
 loop-holds : tie.Need-loop-holds Inv-loop μ-loop
-loop-holds c = (omega arith, λ k. summed-none (c .no-size .ensures) _)
+loop-holds c = (omega arith, one-first _ (c .no-size .ensures) _)
 
 seek-requires : tie.Need-seek-requires Inv-loop μ-loop
 seek-requires c κs = search needs
@@ -60,14 +57,8 @@ returns c =
     let c-loop = c .before .before .before .before .loop in
     let c-args = c .before .before .before .before .before .before .before .before .args in
     let j : c-seek .result ≤ length (now (c-span .result)) = omega (arith, c-seek .ensures, seek-le 44 (now (c-span .result)) (c-loop .i) (c-loop .inv .0)) in
-    λ k.
-    summed-all
-    (summed-more (c-loop .inv .1 k) (valueChoices (env (now (c-args .text)) (now (c-args .vars)) (c-args .n)) (span (now (c-args .text)) (c-args .a + c-loop .i) (c-args .a + c-seek .result)))
-    (c .before .before .value-size .ensures k)
-    (c .before .plus .ensures)
-    (alternative-last (ofName listing (env (now (c-args .text)) (now (c-args .vars)) (c-args .n))) (now (c-args .text)) (c-args .a) (c-args .e) (now (c-span .result)) (c-span .ensures) (c-loop .i) (c-seek .result) (c-seek .ensures) j (search needs)))
-    refl
-    ∙ ap (λ (l : List ℕ). sizeOf (oneChoices (env (now (c-args .text)) (now (c-args .vars)) (c-args .n)) (alternatives l))) (c-span .ensures)
+    alternative-all (nameBy (now (c-args .text)) (now (c-args .vars)) (now (c-args .sizes)) (min 32 (c-args .n))) (now (c-args .text)) (c-args .a) (c-args .e) (now (c-span .result)) (c-span .ensures) (c-loop .i) (c-seek .result) (c-seek .ensures) j (c-loop .inv .1) (c .before .before .value-size .ensures) (c .before .plus .ensures) (search needs)
+    ∙ ap (λ (l : List ℕ). oneBy (now (c-args .text)) (now (c-args .vars)) (c-args .n) (now (c-args .sizes)) (alternatives l) .size) (c-span .ensures)
 
 add-i : tie.Need-add-i Inv-loop μ-loop
 add-i c = search needs
@@ -85,11 +76,7 @@ loop-again c =
     let c-args = c .before .before .before .before .before .before .before .before .args in
     let j : c-seek .result ≤ length (now (c-span .result)) = omega (arith, c-seek .ensures, seek-le 44 (now (c-span .result)) (c-loop .i) (c-loop .inv .0)) in (
       omega arith,
-      λ k.
-          summed-more (c-loop .inv .1 k) (valueChoices (env (now (c-args .text)) (now (c-args .vars)) (c-args .n)) (span (now (c-args .text)) (c-args .a + c-loop .i) (c-args .a + c-seek .result)))
-          (c .before .before .value-size .ensures k)
-          (c .before .plus .ensures)
-          (alternative-more (ofName listing (env (now (c-args .text)) (now (c-args .vars)) (c-args .n))) (now (c-args .text)) (c-args .a) (c-args .e) (now (c-span .result)) (c-span .ensures) (c-loop .i) (c-seek .result) (c-seek .ensures) j (search needs)),
+      alternative-more (nameBy (now (c-args .text)) (now (c-args .vars)) (now (c-args .sizes)) (min 32 (c-args .n))) (now (c-args .text)) (c-args .a) (c-args .e) (now (c-span .result)) (c-span .ensures) (c-loop .i) (c-seek .result) (c-seek .ensures) j (c-loop .inv .1) (c .before .before .value-size .ensures) (c .before .plus .ensures) (search needs),
     )
 
 pub among-size-spec : {M : Type 1} → statement M

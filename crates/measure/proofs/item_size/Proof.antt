@@ -15,10 +15,10 @@ among-size-requires : tie.Need-among-size-requires
 among-size-requires c κs = search needs
 
 returns : tie.Need-returns
-returns c = λ k. rw (c .before .before .i .given .1) (c .part-size .ensures k)
+returns c = rw (c .before .before .i .given .1) (c .part-size .ensures)
 
 returns-2 : tie.Need-returns-2
-returns-2 c = λ k. rw (c .before .before .i2 .given .1) (c .among-size .ensures k)
+returns-2 c = rw (c .before .before .i2 .given .1) (c .among-size .ensures)
 
 pub item-size-spec : {M : Type 1} → statement M
 item-size-spec =

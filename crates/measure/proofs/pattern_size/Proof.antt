@@ -2,26 +2,21 @@ use borrow.Author.Needs.{needs}
 use native.Mathlib.Omega.{arith}
 use denote.Ref.{now}
 use mathlib.Core.Path.{sym, ap, _∙_}
-use Prim.Native.Nat.{ℕ, _-_, _≤_}
-use mathlib.Core.List.{List, [], _∷_, map}
-use lib.ListN.{length, drop}
-use Rattle.scan.specs.Bytes.{span}
+use Prim.Native.Nat.{ℕ, _-_, _≤_, min}
+use mathlib.Core.List.{List}
+use lib.ListN.{length}
 use Rattle.scan.proofs.Laws.{run-inside}
-use Rattle.pattern.specs.Pieces.{Byte}
-use Rattle.pattern.specs.Items.{items}
 use Rattle.pattern.specs.Literals.{ordinary}
 use Rattle.pattern.specs.Places.{itemAt}
 use Rattle.pattern.specs.Reads.{seenItem}
-use Rattle.pattern.specs.Table.{env}
-use Rattle.pattern.specs.Expansions.{listing, ofName, ofItems, expansions}
 use Rattle.pattern.proofs.Laws.{itemEnd-le, itemEnd-more}
-use Rattle.sizes.specs.Sizes.{sizeOf, Known, itemChoices}
-use Rattle.sizes.proofs.Loops.{Passed, passed-first, passed-two, passed-all, items-more, items-literals, items-none}
+use Rattle.sizes.specs.Numbered.{nameBy, patternBy}
+use Rattle.sizes.proofs.Loops.{Passed, itemsFrom, items-first, items-more, items-all}
 use Rattle.measure.proofs.pattern_size.Statement.{statement}
 use Rattle.measure.proofs.pattern_size.Tie as tie
 
 abbrev Inv-loop : tie.InvT-loop
-Inv-loop text vars n sizes a e s at₀ size₀ at size = (at ≤ length s) × (Known text vars n sizes → Passed size (ofItems listing (ofName listing (env text vars n)) (items 0 (drop at s))) (expansions (env text vars n) s))
+Inv-loop text vars n sizes a e s at₀ size₀ at size = (at ≤ length s) × Passed size (itemsFrom (nameBy text vars sizes (min 32 n)) s at) (patternBy text vars n sizes s .size)
 
 abbrev μ-loop : tie.MeasureT-loop
 μ-loop text vars n sizes a e s at₀ size₀ at size = length s - at
@@ -36,13 +31,12 @@ literals-size-requires : tie.Need-literals-size-requires Inv-loop μ-loop
 literals-size-requires c κs = omega (arith, c .literal-end .ensures, run-inside ordinary (now (c .before .span .result)) 0 (omega arith))
 
 loop-holds : tie.Need-loop-holds Inv-loop μ-loop
-unfolding expansions
 loop-holds c =
     let a = (c .before .before .before .before .args) in
     let s = (c .before .before .span) in
     let end = (c .before .literal-end) in (
       omega (arith, end .ensures, run-inside ordinary (now (s .result)) 0 (omega arith)),
-      λ k. passed-first (map Byte (span (now (s .result)) 0 (end .result)) ∷ []) (c .literals-size .ensures) (items-literals (ofName listing (env (now (a .text)) (now (a .vars)) (a .n))) (now (s .result)) 0 (end .result) (end .ensures)),
+      items-first (nameBy (now (a .text)) (now (a .vars)) (now (a .sizes)) (min 32 (a .n))) (now (s .result)) (end .result) (end .ensures) (c .literals-size .ensures),
     )
 
 item-at-requires : tie.Need-item-at-requires Inv-loop μ-loop
@@ -84,12 +78,9 @@ loop-again c =
     let from = (c .before .before .before .before .item-end) in
     let end = (c .before .before .before .literal-end2) in (
       omega (arith, end .ensures, run-inside ordinary (now (s .result)) (from .result) (omega (arith, from .ensures, itemEnd-le (now (s .result)) (l .at)))),
-      λ k.
-          passed-two (l .inv .1 k) (itemChoices (env (now (a .text)) (now (a .vars)) (a .n)) (seenItem (now (a .text)) (read .result))) (map Byte (span (now (s .result)) (from .result) (end .result)) ∷ [])
-          (c .before .before .before .before .before .item-size .ensures k) (c .before .before .literals-size2 .ensures) (c .before .times .ensures) (c .times2 .ensures)
-          (items-more (ofName listing (env (now (a .text)) (now (a .vars)) (a .n))) (now (s .result)) (l .at) (seenItem (now (a .text)) (read .result)) (from .result) (search needs)
-          (read .ensures ∙ ap (λ (t : List ℕ). itemAt t (l .at)) (sym (s .ensures))) (from .ensures))
-          (items-literals (ofName listing (env (now (a .text)) (now (a .vars)) (a .n))) (now (s .result)) (from .result) (end .result) (end .ensures)),
+      items-more (nameBy (now (a .text)) (now (a .vars)) (now (a .sizes)) (min 32 (a .n))) (now (s .result)) (l .at) (from .result) (end .result) (end .ensures) (c .before .before .literals-size2 .ensures) (c .before .times .ensures) (c .times2 .ensures)
+          (l .inv .1) (search needs) (seenItem (now (a .text)) (read .result)) (read .ensures ∙ ap (λ (t : List ℕ). itemAt t (l .at)) (sym (s .ensures))) (from .ensures)
+          (c .before .before .before .before .before .item-size .ensures),
     )
 
 returns : tie.Need-returns Inv-loop μ-loop
@@ -97,9 +88,8 @@ returns c =
     let a = (c .before .before .before .before .before .before .args) in
     let s = (c .before .before .before .before .span) in
     let l = (c .before .loop) in
-    λ k.
-    passed-all (l .inv .1 k) (items-none (ofName listing (env (now (a .text)) (now (a .vars)) (a .n))) (now (s .result)) (l .at) (search needs))
-    ∙ ap (λ (t : List ℕ). sizeOf (expansions (env (now (a .text)) (now (a .vars)) (a .n)) t)) (s .ensures)
+    items-all (nameBy (now (a .text)) (now (a .vars)) (now (a .sizes)) (min 32 (a .n))) (now (s .result)) (l .at) (l .inv .1) (search needs)
+    ∙ ap (λ (t : List ℕ). patternBy (now (a .text)) (now (a .vars)) (a .n) (now (a .sizes)) t .size) (s .ensures)
 
 pub pattern-size-spec : {M : Type 1} → statement M
 pattern-size-spec =

@@ -1,7 +1,7 @@
 use borrow.Author.Needs.{needs}
 use native.Mathlib.Omega.{arith}
 use denote.Ref.{now}
-use mathlib.Core.Path.{_≡_, refl, ap, _∙_}
+use mathlib.Core.Path.{_≡_, ap, _∙_}
 use Prim.Native.Nat.{_-_, _≤_}
 use lib.ListN.{length}
 use Rattle.sizes.specs.Sizes.{Known}
@@ -49,7 +49,7 @@ loop-again c = let c-args = (c .before .before .before .before .before .before .
     let c-loop = (c .before .before .before .before .before .loop) in
     let e = c .put-size2 .ensures in
     let size = (c .before .before .variable-size) in
-    (omega arith, ap length e ∙ length-put _ _ _ ∙ c-loop .inv .1, rw e (known-more (now (c-args .text)) (now (c-args .vars)) (c-loop .table) (c-loop .w) (size .result) (omega arith) (c-loop .inv .1) (c-loop .inv .2) (size .ensures (c-loop .inv .2))))
+    (omega arith, ap length e ∙ length-put _ _ _ ∙ c-loop .inv .1, rw e (known-more (now (c-args .text)) (now (c-args .vars)) (c-loop .table) (c-loop .w) (size .result) (omega arith) (c-loop .inv .1) (c-loop .inv .2) (size .ensures)))
 
 returns : tie.Need-returns Inv-loop μ-loop
 returns c = record { right = λ r h. c .before .loop .inv .2 .right r (omega arith) }

@@ -2,25 +2,21 @@ use borrow.Author.Needs.{needs}
 use native.Mathlib.Omega.{arith}
 use denote.Ref.{now}
 use mathlib.Core.Path.{sym, ap, _∙_}
-use Prim.Native.Nat.{ℕ, _-_, _≤_}
-use mathlib.Core.List.{List, [], _∷_, map}
-use lib.ListN.{length, drop}
-use Rattle.scan.specs.Bytes.{span}
+use Prim.Native.Nat.{ℕ, _-_, _≤_, min}
+use mathlib.Core.List.{List}
+use lib.ListN.{length}
 use Rattle.scan.proofs.Laws.{run-inside}
-use Rattle.pattern.specs.Pieces.{Byte, parts}
 use Rattle.pattern.specs.Literals.{ordinary}
 use Rattle.pattern.specs.Places.{partAt}
 use Rattle.pattern.specs.Reads.{seenPart}
-use Rattle.pattern.specs.Table.{env}
-use Rattle.pattern.specs.Expansions.{listing, ofName, ofParts}
 use Rattle.pattern.proofs.Laws.{partEnd-le, partEnd-more}
-use Rattle.sizes.specs.Sizes.{sizeOf, Known, partChoices, valueChoices}
-use Rattle.sizes.proofs.Loops.{Passed, passed-first, passed-two, passed-all, parts-more, parts-literals, parts-none}
+use Rattle.sizes.specs.Numbered.{nameBy, valueBy}
+use Rattle.sizes.proofs.Loops.{Passed, partsFrom, parts-first, parts-more, parts-all}
 use Rattle.measure.proofs.value_size.Statement.{statement}
 use Rattle.measure.proofs.value_size.Tie as tie
 
 abbrev Inv-loop : tie.InvT-loop
-Inv-loop text vars n sizes a e s at₀ size₀ at size = (at ≤ length s) × (Known text vars n sizes → Passed size (ofParts listing (ofName listing (env text vars n)) (parts 0 (drop at s))) (valueChoices (env text vars n) s))
+Inv-loop text vars n sizes a e s at₀ size₀ at size = (at ≤ length s) × Passed size (partsFrom (nameBy text vars sizes (min 32 n)) s at) (valueBy text vars n sizes s .size)
 
 abbrev μ-loop : tie.MeasureT-loop
 μ-loop text vars n sizes a e s at₀ size₀ at size = length s - at
@@ -40,7 +36,7 @@ loop-holds c =
     let s = (c .before .before .span) in
     let end = (c .before .literal-end) in (
       omega (arith, end .ensures, run-inside ordinary (now (s .result)) 0 (omega arith)),
-      λ k. passed-first (map Byte (span (now (s .result)) 0 (end .result)) ∷ []) (c .literals-size .ensures) (parts-literals (ofName listing (env (now (a .text)) (now (a .vars)) (a .n))) (now (s .result)) 0 (end .result) (end .ensures)),
+      parts-first (nameBy (now (a .text)) (now (a .vars)) (now (a .sizes)) (min 32 (a .n))) (now (s .result)) (end .result) (end .ensures) (c .literals-size .ensures),
     )
 
 part-at-requires : tie.Need-part-at-requires Inv-loop μ-loop
@@ -82,12 +78,9 @@ loop-again c =
     let from = (c .before .before .before .before .part-end) in
     let end = (c .before .before .before .literal-end2) in (
       omega (arith, end .ensures, run-inside ordinary (now (s .result)) (from .result) (omega (arith, from .ensures, partEnd-le (now (s .result)) (l .at)))),
-      λ k.
-          passed-two (l .inv .1 k) (partChoices (env (now (a .text)) (now (a .vars)) (a .n)) (seenPart (now (a .text)) (read .result))) (map Byte (span (now (s .result)) (from .result) (end .result)) ∷ [])
-          (c .before .before .before .before .before .part-size .ensures k) (c .before .before .literals-size2 .ensures) (c .before .times .ensures) (c .times2 .ensures)
-          (parts-more (ofName listing (env (now (a .text)) (now (a .vars)) (a .n))) (now (s .result)) (l .at) (seenPart (now (a .text)) (read .result)) (from .result) (search needs)
-          (read .ensures .is ∙ ap (λ (t : List ℕ). partAt t (l .at)) (sym (s .ensures))) (from .ensures))
-          (parts-literals (ofName listing (env (now (a .text)) (now (a .vars)) (a .n))) (now (s .result)) (from .result) (end .result) (end .ensures)),
+      parts-more (nameBy (now (a .text)) (now (a .vars)) (now (a .sizes)) (min 32 (a .n))) (now (s .result)) (l .at) (from .result) (end .result) (end .ensures) (c .before .before .literals-size2 .ensures) (c .before .times .ensures) (c .times2 .ensures)
+          (l .inv .1) (search needs) (seenPart (now (a .text)) (read .result)) (read .ensures .is ∙ ap (λ (t : List ℕ). partAt t (l .at)) (sym (s .ensures))) (from .ensures)
+          (c .before .before .before .before .before .part-size .ensures),
     )
 
 returns : tie.Need-returns Inv-loop μ-loop
@@ -95,9 +88,8 @@ returns c =
     let a = (c .before .before .before .before .before .before .args) in
     let s = (c .before .before .before .before .span) in
     let l = (c .before .loop) in
-    λ k.
-    passed-all (l .inv .1 k) (parts-none (ofName listing (env (now (a .text)) (now (a .vars)) (a .n))) (now (s .result)) (l .at) (search needs))
-    ∙ ap (λ (t : List ℕ). sizeOf (valueChoices (env (now (a .text)) (now (a .vars)) (a .n)) t)) (s .ensures)
+    parts-all (nameBy (now (a .text)) (now (a .vars)) (now (a .sizes)) (min 32 (a .n))) (now (s .result)) (l .at) (l .inv .1) (search needs)
+    ∙ ap (λ (t : List ℕ). valueBy (now (a .text)) (now (a .vars)) (a .n) (now (a .sizes)) t .size) (s .ensures)
 
 pub value-size-spec : {M : Type 1} → statement M
 value-size-spec =

@@ -1,16 +1,15 @@
 use borrow.Author.Needs.{needs}
 use native.Mathlib.Omega.{arith}
 use denote.Ref.{now}
-use Prim.Native.Nat.{_+_, _-_, _*_, _≤_}
-use Rattle.pattern.specs.Table.{env, ofNumber, bytesAt, valuesFrom}
-use Rattle.sizes.specs.Sizes.{Known, valueChoices}
-use Rattle.pattern.specs.Expansions.{listing, oneOf, ofName}
-use Rattle.sizes.proofs.Loops.{Summed, summed-none, summed-more, summed-all, values-more, values-none, values-all}
+use Prim.Native.Nat.{_+_, _-_, _*_, _≤_, min}
+use Rattle.pattern.specs.Table.{valuesFrom, valuesOf}
+use Rattle.sizes.specs.Numbered.{nameBy, oneBy}
+use Rattle.sizes.proofs.Loops.{Summed, oneFrom, values-first, values-more, values-all}
 use Rattle.measure.proofs.variable_size.Statement.{statement}
 use Rattle.measure.proofs.variable_size.Tie as tie
 
 abbrev Inv-loop : tie.InvT-loop
-Inv-loop text vars w sizes m size₀ k₀ size k = (k ≤ m) × (Known text vars w sizes → Summed size (oneOf listing (ofName listing (env text vars w)) (valuesFrom text vars (m - k) (16 * w + k))) (ofNumber listing text vars (w + 1)))
+Inv-loop text vars w sizes m size₀ k₀ size k = (k ≤ m) × Summed size (oneFrom (nameBy text vars sizes (min 32 w)) (valuesFrom text vars (m - k) (16 * w + k))) (oneBy text vars w sizes (valuesOf text vars w) .size)
 
 abbrev μ-loop : tie.MeasureT-loop
 μ-loop text vars w sizes m size₀ k₀ size k = m - k
@@ -34,7 +33,7 @@ loop-holds : tie.Need-loop-holds Inv-loop μ-loop
 loop-holds c =
     let c-args = c .before .before .before .before .args in
     let c-least = c .before .least in
-    (omega arith, λ k. rw (values-all (now (c-args .text)) (now (c-args .vars)) (c-args .w) (c-least .result) (search needs) (c-least .ensures)) (summed-none (c .no-size .ensures) _))
+    (omega arith, values-first (nameBy (now (c-args .text)) (now (c-args .vars)) (now (c-args .sizes)) (min 32 (c-args .w))) (now (c-args .text)) (now (c-args .vars)) (c-args .w) (c-least .result) (c-least .ensures) (c .no-size .ensures))
 
 mul-j : tie.Need-mul-j Inv-loop μ-loop
 mul-j c = search needs
@@ -78,21 +77,15 @@ loop-less c = search needs
 loop-again : tie.Need-loop-again Inv-loop μ-loop
 loop-again c =
     let c-loop = c .before .before .before .before .before .loop in
-    let c-args = c .before .before .before .before .before .before .before .before .before .before .args in (
-      omega arith,
-      λ k.
-          summed-more (c-loop .inv .1 k) (valueChoices (env (now (c-args .text)) (now (c-args .vars)) (c-args .w)) (bytesAt (now (c-args .text)) (now (c-args .vars)) (96 + 2 * (16 * c-args .w + c-loop .k))))
-          (c .before .value-size .ensures k)
-          (c .plus .ensures)
-          (values-more (ofName listing (env (now (c-args .text)) (now (c-args .vars)) (c-args .w))) (now (c-args .text)) (now (c-args .vars)) (c .before .before .before .before .before .before .before .least .result) (c-loop .k) (16 * c-args .w) (search needs)),
-    )
+    let c-args = c .before .before .before .before .before .before .before .before .before .before .args in
+    let c-least = c .before .before .before .before .before .before .before .least in
+    (omega arith, values-more (nameBy (now (c-args .text)) (now (c-args .vars)) (now (c-args .sizes)) (min 32 (c-args .w))) (now (c-args .text)) (now (c-args .vars)) (c-least .result) (c-loop .k) (16 * c-args .w) (c-loop .inv .1) (search needs) (c .before .value-size .ensures) (c .plus .ensures))
 
 returns : tie.Need-returns Inv-loop μ-loop
 returns c =
     let c-loop = c .before .loop in
     let c-args = c .before .before .before .before .before .before .args in
-    λ k.
-    summed-all (c-loop .inv .1 k) (values-none (ofName listing (env (now (c-args .text)) (now (c-args .vars)) (c-args .w))) (now (c-args .text)) (now (c-args .vars)) (c .before .before .before .least .result) (c-loop .k) (16 * c-args .w) (search needs))
+    values-all (nameBy (now (c-args .text)) (now (c-args .vars)) (now (c-args .sizes)) (min 32 (c-args .w))) (now (c-args .text)) (now (c-args .vars)) (c .before .before .before .least .result) (c-loop .k) (16 * c-args .w) (c-loop .inv .1) (search needs)
 
 pub variable-size-spec : {M : Type 1} → statement M
 variable-size-spec =

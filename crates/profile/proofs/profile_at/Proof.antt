@@ -1,8 +1,13 @@
 use denote.Ref.{now}
-use mathlib.Core.Path.{sym}
+use Prim.Native.Nat.{ℕ}
+use mathlib.Core.Path.{sym, ap, _∙_}
+use mathlib.Core.List.{List}
 use native.Mathlib.Nat.{min-eq-right}
 use lib.Dec.{leb}
 use Rattle.pattern.specs.Table.{env}
+use Rattle.rule.specs.Rules.{rulesAt}
+use Rattle.statement.specs.Steps.{counted}
+use Rattle.faults.proofs.Laws.{faults-known}
 use Rattle.heads.specs.Places.{namesOf}
 use Rattle.profile.specs.Places.{seenProfile}
 use Rattle.profile.proofs.Laws.{by-head-refused, by-rules-good, by-rules-refused}
@@ -50,7 +55,7 @@ returns-2 c =
     let s = now (c-args .text) in
     let vs = env s (now (c-args .vars)) (c-args .n) in
     let used = namesOf s (now (c-args .table)) (c-args .k) in
-    sym (by-rules-refused (leb 32 (c-args .k)) (c-args .left) used vs s (c-args .at .0) (c-head-at .result) (rw (min-eq-right (c-pre .0)) at (c-head-at .ensures)) (c-name .given .0 .0) (c-name .given .0 .1 .0) (c-name .given .1) (c-rules-at .result) (c-rules-at .ensures (c-pre .1)) (c .before .stop2 .given .0 .0) (c .before .stop2 .given .1))
+    sym (by-rules-refused (leb 32 (c-args .k)) (c-args .left) used vs s (c-args .at .0) (c-head-at .result) (rw (min-eq-right (c-pre .0)) at (c-head-at .ensures)) (c-name .given .0 .0) (c-name .given .0 .1 .0) (c-name .given .1) (c-rules-at .result) (c-rules-at .ensures ∙ ap (λ (f : List ℕ → ℕ). counted (rulesAt (c-args .left) f s (c-name .given .0 .1 .0 .0))) (faults-known (c-pre .1))) (c .before .stop2 .given .0 .0) (c .before .stop2 .given .1))
 
 returns-3 : tie.Need-returns-3
 unfolding seenProfile
@@ -63,7 +68,7 @@ returns-3 c =
     let s = now (c-args .text) in
     let vs = env s (now (c-args .vars)) (c-args .n) in
     let used = namesOf s (now (c-args .table)) (c-args .k) in
-    sym (by-rules-good (leb 32 (c-args .k)) (c-args .left) used vs s (c-args .at .0) (c-head-at .result) (rw (min-eq-right (c-pre .0)) at (c-head-at .ensures)) (c-name .given .0 .0) (c-name .given .0 .1 .0) (c-name .given .1) (c-rules-at .result) (c-rules-at .ensures (c-pre .1)) (c .before .count .given .0 .0) (c .before .count .given .0 .1 .0) (c .before .count .given .1))
+    sym (by-rules-good (leb 32 (c-args .k)) (c-args .left) used vs s (c-args .at .0) (c-head-at .result) (rw (min-eq-right (c-pre .0)) at (c-head-at .ensures)) (c-name .given .0 .0) (c-name .given .0 .1 .0) (c-name .given .1) (c-rules-at .result) (c-rules-at .ensures ∙ ap (λ (f : List ℕ → ℕ). counted (rulesAt (c-args .left) f s (c-name .given .0 .1 .0 .0))) (faults-known (c-pre .1))) (c .before .count .given .0 .0) (c .before .count .given .0 .1 .0) (c .before .count .given .1))
 
 pub profile-at-spec : {M : Type 1} → statement M
 profile-at-spec =

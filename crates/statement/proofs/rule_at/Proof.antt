@@ -1,5 +1,5 @@
 use denote.Ref.{now}
-use Rattle.pattern.specs.Table.{env}
+use Rattle.faults.specs.Sized.{faultBy}
 use Rattle.statement.proofs.Laws.{rule-standing}
 use borrow.Author.Needs.{needs}
 use Rattle.statement.proofs.rule_at.Statement.{statement}
@@ -14,7 +14,7 @@ rule-here-requires c κs = search needs
 returns : tie.Need-returns
 returns c =
     let a = (c .before .before .before .args) in
-    (λ k. rw (← rule-standing (env (now (a .text)) (now (a .vars)) (a .n)) (now (a .text)) (a .at .0), ← c .before .standing-at .ensures) (c .rule-here .ensures .0 k), c .rule-here .ensures .1)
+    (rw (← rule-standing (faultBy (now (a .text)) (now (a .vars)) (a .n) (now (a .sizes))) (now (a .text)) (a .at .0), ← c .before .standing-at .ensures) (c .rule-here .ensures .0), c .rule-here .ensures .1)
 
 pub rule-at-spec : {M : Type 1} → statement M
 rule-at-spec = tie.close (tie.spec standing-at-requires rule-here-requires returns)

@@ -1,5 +1,5 @@
 use mathlib.Core.Path.{refl}
-use Rattle.statement.specs.Steps.{ruleEnd}
+use Rattle.rule.specs.Rules.{ruleEnd}
 use Rattle.rule_tail.specs.Places.{seenComma, seenTarget}
 use Rattle.statement.specs.Places.{seenRule}
 use borrow.Author.Needs.{needs}

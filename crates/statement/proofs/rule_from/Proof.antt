@@ -1,6 +1,5 @@
 use mathlib.Core.Path.{refl, _∙_}
 use Rattle.rule.specs.Rules.{ruleFrom}
-use Rattle.statement.specs.Steps.{ruleEnd}
 use Rattle.rule_tail.specs.Places.{seenPerms}
 use Rattle.statement.specs.Places.{seenRule}
 use Rattle.statement.proofs.Laws.{judged-bad}
@@ -13,7 +12,7 @@ pattern-fault-requires c κs = search needs
 
 returns : tie.Need-returns
 unfolding ruleFrom seenRule
-returns c = (λ k. rw (← c .before .before .pattern-fault .ensures k, judged-bad _ _ (c .before .if1 .taken), ruleFrom), refl)
+returns c = (rw (← c .before .before .pattern-fault .ensures, judged-bad _ _ (c .before .if1 .taken), ruleFrom), refl)
 
 perms-at-requires : tie.Need-perms-at-requires
 perms-at-requires c κs = search needs
@@ -29,11 +28,11 @@ rule-end-requires c κs = search needs
 
 returns-2 : tie.Need-returns-2
 unfolding ruleFrom seenPerms seenRule
-returns-2 c = (λ k. rw (← c .before .before .before .before .before .before .pattern-fault .ensures k, c .before .before .before .before .before .if1 .left, ← c .before .before .before .perms-at .ensures, c .before .stop .given .1, seenPerms, ruleFrom), refl)
+returns-2 c = (rw (← c .before .before .before .before .before .before .pattern-fault .ensures, c .before .before .before .before .before .if1 .left, ← c .before .before .before .perms-at .ensures, c .before .stop .given .1, seenPerms, ruleFrom), refl)
 
 returns-3 : tie.Need-returns-3
-unfolding ruleFrom ruleEnd seenPerms
-returns-3 c = (λ k. c .rule-end .ensures .0 ∙ rw (← c .before .before .before .before .before .before .before .pattern-fault .ensures k, c .before .before .before .before .before .before .if1 .left, ← c .before .before .before .before .perms-at .ensures, c .before .before .perms .given .1, seenPerms, ruleFrom), c .rule-end .ensures .1)
+unfolding ruleFrom seenPerms
+returns-3 c = (c .rule-end .ensures .0 ∙ rw (← c .before .before .before .before .before .before .before .pattern-fault .ensures, c .before .before .before .before .before .before .if1 .left, ← c .before .before .before .before .perms-at .ensures, c .before .before .perms .given .1, seenPerms, ruleFrom), c .rule-end .ensures .1)
 
 pub rule-from-spec : {M : Type 1} → statement M
 rule-from-spec =

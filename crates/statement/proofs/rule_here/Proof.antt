@@ -5,8 +5,9 @@ use mathlib.Core.Path.{refl, sym, _∙_}
 use lib.ListN.{length}
 use Rattle.scan.specs.Bytes.{bytes}
 use Rattle.blanks.specs.Blanks.{standing}
-use Rattle.statement.specs.Steps.{ruleAt}
-use Rattle.rule.specs.Places.{seenGot}
+use Rattle.rule.specs.Rules.{bodyAt, ruleAt}
+use Rattle.rule.proofs.Laws.{pattern-from}
+use Rattle.rule.specs.Places.{seenGot, seenQualifiers}
 use Rattle.statement.specs.Places.{seenRule, seenStep}
 use Rattle.blanks.proofs.Laws.{stands-inside}
 use borrow.Author.Needs.{needs}
@@ -30,8 +31,8 @@ add-t19 c =
     omega (arith, c .standing-at .ensures)
 
 returns : tie.Need-returns
-unfolding ruleAt seenStep bytes
-returns c = (λ k. rw (c .standing-at .ensures, ← c .before .before .stands-at .ensures, c .before .if1 .taken, ruleAt), refl)
+unfolding ruleAt bodyAt seenStep bytes
+returns c = (rw (c .standing-at .ensures, ← c .before .before .stands-at .ensures, c .before .if1 .taken, bodyAt), refl)
 
 qualifiers-at-requires : tie.Need-qualifiers-at-requires
 qualifiers-at-requires c κs = search needs
@@ -55,16 +56,16 @@ enum-known-rule : tie.Need-enum-known-rule
 enum-known-rule c = search needs
 
 returns-2 : tie.Need-returns-2
-unfolding ruleAt seenGot seenStep bytes
-returns-2 c = (λ k. rw (← c .before .before .before .before .before .before .stands-at .ensures, c .before .before .before .before .before .if1 .left, ← c .before .before .before .before .qualifiers-at .ensures .is, ← c .before .before .before .pattern-at .ensures (c .before .before .before .before .qualifiers-at .ensures .token), c .before .stop .given .1, seenGot, ruleAt), refl)
+unfolding ruleAt bodyAt seenGot seenStep bytes
+returns-2 c = (rw (← c .before .before .before .before .before .before .stands-at .ensures, c .before .before .before .before .before .if1 .left, ← c .before .before .before .before .qualifiers-at .ensures .is, ← pattern-from _ (seenQualifiers (c .before .before .before .before .qualifiers-at .result)) (c .before .before .before .before .qualifiers-at .ensures .token), ← c .before .before .before .pattern-at .ensures, c .before .stop .given .1, seenGot, bodyAt), refl)
 
 returns-3 : tie.Need-returns-3
-unfolding ruleAt seenGot seenRule seenStep bytes
-returns-3 c = (λ k. rw (← c .before .before .before .before .before .before .before .before .before .before .stands-at .ensures, c .before .before .before .before .before .before .before .before .before .if1 .left, ← c .before .before .before .before .before .before .before .before .qualifiers-at .ensures .is, ← c .before .before .before .before .before .before .before .pattern-at .ensures (c .before .before .before .before .before .before .before .before .qualifiers-at .ensures .token), c .before .before .before .before .before .t .given .1, seenGot, ← c .before .before .before .rule-from .ensures .0 k, c .before .stop2 .given .1, seenRule, ruleAt), refl)
+unfolding ruleAt bodyAt seenGot seenRule seenStep bytes
+returns-3 c = (rw (← c .before .before .before .before .before .before .before .before .before .before .stands-at .ensures, c .before .before .before .before .before .before .before .before .before .if1 .left, ← c .before .before .before .before .before .before .before .before .qualifiers-at .ensures .is, ← pattern-from _ (seenQualifiers (c .before .before .before .before .before .before .before .before .qualifiers-at .result)) (c .before .before .before .before .before .before .before .before .qualifiers-at .ensures .token), ← c .before .before .before .before .before .before .before .pattern-at .ensures, c .before .before .before .before .before .t .given .1, seenGot, ← c .before .before .before .rule-from .ensures .0, c .before .stop2 .given .1, seenRule, bodyAt), refl)
 
 returns-4 : tie.Need-returns-4
-unfolding ruleAt seenGot seenRule seenStep bytes
-returns-4 c = (λ k. rw (← c .before .before .before .before .before .before .before .before .before .before .stands-at .ensures, c .before .before .before .before .before .before .before .before .before .if1 .left, ← c .before .before .before .before .before .before .before .before .qualifiers-at .ensures .is, ← c .before .before .before .before .before .before .before .pattern-at .ensures (c .before .before .before .before .before .before .before .before .qualifiers-at .ensures .token), c .before .before .before .before .before .t .given .1, seenGot, ← c .before .before .before .rule-from .ensures .0 k, c .before .rule .given .1, seenRule, ruleAt), rw (c .before .rule .given .1) at (c .before .before .before .rule-from .ensures .1))
+unfolding ruleAt bodyAt seenGot seenRule seenStep bytes
+returns-4 c = (rw (← c .before .before .before .before .before .before .before .before .before .before .stands-at .ensures, c .before .before .before .before .before .before .before .before .before .if1 .left, ← c .before .before .before .before .before .before .before .before .qualifiers-at .ensures .is, ← pattern-from _ (seenQualifiers (c .before .before .before .before .before .before .before .before .qualifiers-at .result)) (c .before .before .before .before .before .before .before .before .qualifiers-at .ensures .token), ← c .before .before .before .before .before .before .before .pattern-at .ensures, c .before .before .before .before .before .t .given .1, seenGot, ← c .before .before .before .rule-from .ensures .0, c .before .rule .given .1, seenRule, bodyAt), rw (c .before .rule .given .1) at (c .before .before .before .rule-from .ensures .1))
 
 pub rule-here-spec : {M : Type 1} → statement M
 rule-here-spec =

@@ -64,7 +64,7 @@ loop-again : tie.Need-loop-again Inv-loop μ-loop
 loop-again c = (omega arith, sym (number-miss (now (c .before .before .before .before .before .before .before .before .before .before .args .text)) (now (c .before .before .before .before .before .before .before .before .before .before .args .vars)) (span (now (c .before .before .before .before .before .before .before .before .before .before .args .text)) (c .before .before .before .before .before .before .before .before .before .before .args .start) (c .before .before .before .before .before .before .before .before .before .before .args .end)) (c .before .before .before .before .before .before .loop .i) (omega arith) (sym (c .before .same-bytes .ensures ∙ ap₂ same (c .before .before .span2 .ensures) (c .before .before .before .before .before .before .before .before .span .ensures)) ∙ c .if1 .left)) ∙ c .before .before .before .before .before .before .loop .inv .1)
 
 returns-2 : tie.Need-returns-2 Inv-loop μ-loop
-returns-2 c = sym (number-end (now (c .before .before .before .before .before .args .text)) (now (c .before .before .before .before .before .args .vars)) (span (now (c .before .before .before .before .before .args .text)) (c .before .before .before .before .before .args .start) (c .before .before .before .before .before .args .end)) (c .before .loop .i) (omega arith)) ∙ c .before .loop .inv .1
+returns-2 c = omega arith ∙ sym (number-end (now (c .before .before .before .before .before .args .text)) (now (c .before .before .before .before .before .args .vars)) (span (now (c .before .before .before .before .before .args .text)) (c .before .before .before .before .before .args .start) (c .before .before .before .before .before .args .end)) (c .before .loop .i) (omega arith)) ∙ c .before .loop .inv .1
 
 pub named-spec : {M : Type 1} → statement M
 named-spec =

@@ -6,6 +6,9 @@ use Rattle.variables.proofs.Laws.{name-room, name-full}
 use Rattle.variables.proofs.with_name.Statement.{statement}
 use Rattle.variables.proofs.with_name.Tie as tie
 
+returns : tie.Need-returns
+returns c = (search needs, sym (name-full _ _ _ _ (omega arith)))
+
 mul-cells : tie.Need-mul-cells
 mul-cells c = search needs
 
@@ -36,16 +39,14 @@ mul-cells-5 c = search needs
 slice-write-cells-3 : tie.Need-slice-write-cells-3
 slice-write-cells-3 c = simp length-set (omega arith)
 
-returns : tie.Need-returns
-returns c = (search needs, sym (name-room _ _ _ _ (c .if1 .taken)))
-
 returns-2 : tie.Need-returns-2
-returns-2 c = (search needs, sym (name-full _ _ _ _ (c .if1 .left)))
+returns-2 c = (search needs, sym (name-room _ _ _ _ (omega arith)))
 
 pub with-name-spec : {M : Type 1} → statement M
 with-name-spec =
     tie.close
     (tie.spec
+    returns
     mul-cells
     mul-cells-2
     slice-write-cells
@@ -56,5 +57,4 @@ with-name-spec =
     add-cells-2
     mul-cells-5
     slice-write-cells-3
-    returns
     returns-2)

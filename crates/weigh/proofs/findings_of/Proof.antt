@@ -1,123 +1,41 @@
 use borrow.Author.Needs.{needs}
-use denote.Ref.{now}
+use borrow.Author.Tests.{le-leb}
 use native.Mathlib.Omega.{arith}
-use Prim.Native.Nat.{suc, _+_, _≤_, _-_}
-use mathlib.Core.Path.{_≡_, sym, _∙_}
-use Rattle.pattern.specs.Table.{env}
-use Rattle.sizes.specs.Sizes.{Known}
-use Rattle.statement.specs.Steps.{rulesFrom}
-use Rattle.findings.specs.Weighed.{nothing, seenFindings}
-use Rattle.weigh.specs.Weigh.{Fits}
-use Rattle.weigh.proofs.Laws.{gathered, gathered-rules, gather-more, gather-close, gather-refused, gather-end, read-good}
+use denote.Ref.{now}
+use mathlib.Core.Path.{sym, _∙_}
+use lib.ListN.{length}
+use Rattle.weigh.proofs.Laws.{gathered-far, gathered-fit, gathered-long}
 use Rattle.weigh.proofs.findings_of.Statement.{statement}
 use Rattle.weigh.proofs.findings_of.Tie as tie
 
-abbrev Inv-loop : tie.InvT-loop
-Inv-loop text vars n sizes path owner count found₀ place₀ i₀ found place i =
-    (i ≤ count)
-    × (Known text vars n sizes → Fits text path →
-    gathered text (env text vars n) path owner (rulesFrom (count - i) (env text vars n) text (place .0)) (seenFindings text found)
-    ≡ gathered text (env text vars n) path owner (rulesFrom count (env text vars n) text (place₀ .0)) nothing)
-
-abbrev μ-loop : tie.MeasureT-loop
-μ-loop text vars n sizes path owner count found₀ place₀ i₀ found place i = count - i
-
-no-findings-requires : tie.Need-no-findings-requires Inv-loop μ-loop
+no-findings-requires : tie.Need-no-findings-requires
 no-findings-requires c κs = search needs
 
-loop-holds : tie.Need-loop-holds Inv-loop μ-loop
-loop-holds c = let e : c .before .before .before .args .count - 0 ≡ c .before .before .before .args .count = omega arith in (omega arith, λ k fits. rw (e, c .no-findings .ensures (now (c .before .before .before .args .text))))
-
-rule-at-requires : tie.Need-rule-at-requires Inv-loop μ-loop
-rule-at-requires c κs = search needs
-
-enum-known-r : tie.Need-enum-known-r Inv-loop μ-loop
-enum-known-r c = search needs
-
-weigh-requires : tie.Need-weigh-requires Inv-loop μ-loop
-weigh-requires c κs = search needs
-
-add-i : tie.Need-add-i Inv-loop μ-loop
-add-i c = omega (arith, c .before .before .before .before .before .before .before .before .before .before .good .1 .1 .1 .1 .1 .1 .0)
-
-loop-less : tie.Need-loop-less Inv-loop μ-loop
-loop-less c = search needs
-
-loop-again : tie.Need-loop-again Inv-loop μ-loop
-loop-again c =
-    let l = (c .before .before .before .before .before .before .loop) in
-    let a = (c .before .before .before .before .before .before .before .before .before .before .args) in
-    let s = now (a .text) in
-    let vs = env s (now (a .vars)) (a .n) in
-    let w = seenFindings s (l .found) in
-    let e : a .count - l .i ≡ suc (a .count - (l .i + 1)) = omega arith in (
-      omega arith,
-      λ k fits. rw (c .weigh .ensures k fits (read-good vs s (l .place .0) (c .before .before .before .before .rule-at .ensures .0 k) (c .before .before .r .given .1)))
-          (sym (gather-more vs s (now (a .path)) (a .owner) (l .place .0) w (a .count - (l .i + 1)) (c .before .before .before .before .rule-at .ensures .0 k) (c .before .before .r .given .1))
-          ∙ (rw e at (l .inv .1 k fits))),
-    )
-
-enum-told : tie.Need-enum-told Inv-loop μ-loop
-enum-told c = search needs
-
-returns : tie.Need-returns Inv-loop μ-loop
+returns : tie.Need-returns
 returns c =
-    let l = (c .before .before .before .before .loop) in
-    let a = (c .before .before .before .before .before .before .before .before .args) in
-    let s = now (a .text) in
-    let vs = env s (now (a .vars)) (a .n) in
-    let w = seenFindings s (l .found) in
-    let e : a .count - l .i ≡ suc (a .count - (l .i + 1)) = omega arith in
-    λ k fits.
-    sym (gather-close vs s (now (a .path)) (a .owner) (l .place .0) w (a .count - (l .i + 1)) (c .before .before .rule-at .ensures .0 k) (c .enum-told .given .1))
-    ∙ (rw e at (l .inv .1 k fits))
-    ∙ gathered-rules s vs (record { path = now (a .path); owner = a .owner }) fits (a .count) (a .at .0)
+    let a = (c .before .before .before .before .args) in
+    c .no-findings .ensures (now (a .text)) ∙ sym (gathered-long (now (a .text)) _ _ (a .count) (a .at .0) (omega arith))
 
-enum-told-2 : tie.Need-enum-told-2 Inv-loop μ-loop
-enum-told-2 c = search needs
+no-findings-requires-2 : tie.Need-no-findings-requires-2
+no-findings-requires-2 c κs = search needs
 
-returns-2 : tie.Need-returns-2 Inv-loop μ-loop
+returns-2 : tie.Need-returns-2
 returns-2 c =
-    let l = (c .before .before .before .before .loop) in
-    let a = (c .before .before .before .before .before .before .before .before .args) in
-    let s = now (a .text) in
-    let vs = env s (now (a .vars)) (a .n) in
-    let w = seenFindings s (l .found) in
-    let e : a .count - l .i ≡ suc (a .count - (l .i + 1)) = omega arith in
-    λ k fits.
-    sym (gather-refused vs s (now (a .path)) (a .owner) (l .place .0) w (a .count - (l .i + 1)) (c .before .before .rule-at .ensures .0 k) (c .enum-told2 .given .1))
-    ∙ (rw e at (l .inv .1 k fits))
-    ∙ gathered-rules s vs (record { path = now (a .path); owner = a .owner }) fits (a .count) (a .at .0)
-
-returns-3 : tie.Need-returns-3 Inv-loop μ-loop
-returns-3 c =
-    let l = (c .before .loop) in
     let a = (c .before .before .before .before .before .args) in
-    let s = now (a .text) in
-    let vs = env s (now (a .vars)) (a .n) in
-    let w = seenFindings s (l .found) in
-    let e : a .count - l .i ≡ 0 = omega arith in
-    λ k fits.
-    sym (gather-end vs s (now (a .path)) (a .owner) (l .place .0) w)
-    ∙ (rw e at (l .inv .1 k fits))
-    ∙ gathered-rules s vs (record { path = now (a .path); owner = a .owner }) fits (a .count) (a .at .0)
+    c .no-findings2 .ensures (now (a .text)) ∙ sym (gathered-far (now (a .text)) _ (record { path = now (a .path); owner = a .owner }) (a .count) (a .at .0) (omega arith))
+
+sizes-of-requires : tie.Need-sizes-of-requires
+sizes-of-requires c κs = search needs
+
+gather-requires : tie.Need-gather-requires
+gather-requires c κs = (c .before .before .sizes-of .ensures, record { short = omega arith; fits = le-leb (length (now (c .before .before .before .before .before .before .before .args .path))) 4095 (omega arith) })
+
+returns-3 : tie.Need-returns-3
+returns-3 c =
+    let a = (c .before .before .before .before .before .before .before .before .args) in
+    c .gather .ensures ∙ sym (gathered-fit (now (a .text)) _ (record { path = now (a .path); owner = a .owner }) (a .count) (a .at .0) (record { short = omega arith; fits = le-leb (length (now (a .path))) 4095 (omega arith) }))
 
 pub findings-of-spec : {M : Type 1} → statement M
 findings-of-spec =
     tie.close
-    (tie.spec
-    Inv-loop
-    μ-loop
-    no-findings-requires
-    loop-holds
-    rule-at-requires
-    enum-known-r
-    weigh-requires
-    add-i
-    loop-less
-    loop-again
-    enum-told
-    returns
-    enum-told-2
-    returns-2
-    returns-3)
+    (tie.spec no-findings-requires returns no-findings-requires-2 returns-2 sizes-of-requires gather-requires returns-3)
