@@ -43,7 +43,7 @@ module _ (text : List ℕ) where
         all = rw append-nil (sym (take-all (length out) (map (decode text) (take m out)) (rw length-map (omega (arith, length-take m out)))));
       }
 
-  pub wrote-then : {out mid end : List ℕ} {m n r : ℕ} {xs ys : List Piece} →
+  wrote-then : {out mid end : List ℕ} {m n r : ℕ} {xs ys : List Piece} →
       Wrote text out m mid n xs → Wrote text mid n end r ys → Wrote text out m end r (xs ++ ys)
   wrote-then {out} {mid} {end} {m} {n} {r} {xs} {ys} p q =
       record {

@@ -25,7 +25,7 @@ use Rattle.sizes.proofs.Numbered.{pattern-right}
 use Rattle.expand.specs.Write.{textFits, Written}
 use Rattle.matcher.specs.Match.{matches, matchesSome, matchesExactly}
 use Rattle.matcher.specs.Walk.{pathFits}
-use Rattle.scan.proofs.Bools.{and-left, and-right}
+use Rattle.scan.proofs.Bools.{and-left, and-right, or-right}
 use Rattle.front.specs.Front.{beginning, front}
 use Rattle.front.proofs.Laws.{front-none, front-none-exactly}
 use Rattle.glob.specs.declared.Matched.{Matched}
@@ -44,17 +44,13 @@ expansion-matched text path x {end = end} {r = r} fits w room l j f =
 
 -- ---- all expansions, by number
 
-pub below-at : (p : ℕ → Bool) (k d : ℕ) → d < k → p d ≡ true → someBelow p k ≡ true
+below-at : (p : ℕ → Bool) (k d : ℕ) → d < k → p d ≡ true → someBelow p k ≡ true
 unfolding someBelow
 below-at p zero d h e = absurd (not-suc-le-zero h)
 below-at p (suc k) d h e = go (eqb d k) refl (below-at p k d)
   where
-    or-true : (a b : Bool) → b ≡ true → (a || b) ≡ true
-    or-true true b q = refl
-    or-true false b q = q
-
     go : (x : Bool) → eqb d k ≡ x → (d < k → p d ≡ true → someBelow p k ≡ true) → (someBelow p k || p k) ≡ true
-    go true q f = or-true (someBelow p k) (p k) (ap p (sym (eqb-true d k q)) ∙ e)
+    go true q f = or-right (someBelow p k) (p k) (ap p (sym (eqb-true d k q)) ∙ e)
     go false q f = let n : d ≡ k → ⊥ = eqb-false d k q in ap (λ (z : Bool). z || p k) (f (omega arith) e)
 
 -- the first d expansions were tried: one of them matches, or none, and none exactly

@@ -1,6 +1,6 @@
 -- Demand 3 on texts: rules in another order, deny rules added, allow rules added, other profiles.
 use Prim.Native.Nat.{ℕ}
-use mathlib.Core.Path.{_≡_, refl, sym, ap, _∙_}
+use mathlib.Core.Path.{_≡_, refl, sym, ap, _∙_, subst}
 use mathlib.Core.List.{List, List·Memᴰ, List·Memᴰ·head, List·Memᴰ·tail}
 use mathlib.Core.Bool.{Bool, true}
 use mathlib.Core.Logic.{inl}
@@ -14,12 +14,14 @@ use Rattle.findings.specs.Findings.{allows, denies, findings}
 use Rattle.answer.specs.Answers.{answerFrom, refusal}
 use Rattle.answer.specs.declared.Answer.{Answer}
 use Rattle.decide.specs.Decide.{answerOf}
-use Rattle.laws.specs.Asked.{named, rulesOf}
+use Rattle.laws.specs.Asked.{rulesOf}
 use Rattle.laws.specs.Orders.{Accepted, SameButRules, NoMore, NoLess}
 use Rattle.laws.specs.Whole.{whole}
-use Rattle.laws.proofs.Texts.{one-name, texts-by}
+use Rattle.laws.proofs.Texts.{held, one-name, texts-by}
 use Rattle.laws.proofs.Whole.{accepted-whole}
 use Rattle.laws.proofs.Answers.{rules-same, deny-less, allow-no-less}
+
+-- ---- the sentences on texts
 
 -- "If each profile holds the same rules, in whatever order and each however often, every request gets the same answer."
 pub any-order : (s t name path : List ℕ) (asked : ℕ) (owner : Bool) (f g : File) → Accepted s f → Accepted t g → SameButRules SameRules f g
@@ -77,9 +79,12 @@ allow-added s t name path asked owner f g a b same =
 
 -- "With the same preamble and the same rules in the asked profile, two accepted files that both hold it answer alike, whatever their
 -- other profiles hold."
-pub other-profiles : (s t name path : List ℕ) (asked : ℕ) (owner : Bool) (f g : File) → Accepted s f → Accepted t g → f .preamble ≡ g .preamble
-    → named name (f .profiles) ≡ true → named name (g .profiles) ≡ true → SameRules (rulesOf name (f .profiles)) (rulesOf name (g .profiles))
+pub other-profiles : (s t name path : List ℕ) (asked : ℕ) (owner : Bool) (f g : File) (p q : Profile) → Accepted s f → Accepted t g → f .preamble ≡ g .preamble
+    → List·Memᴰ p (f .profiles) → List·Memᴰ q (g .profiles) → p .name ≡ name → q .name ≡ name → SameRules (p .rules) (q .rules)
     → answerOf s name path asked owner ≡ answerOf t name path asked owner
-other-profiles s t name path asked owner f g a b same here there rules =
-    one-name SameRules (λ x y. x ≡ y) s t name path asked owner f g (λ n line. refl) (λ vs xs ys h. rules-same vs (record { path = path; owner = owner }) asked xs ys h) a b
-    same (here ∙ sym there) (λ e. rules)
+other-profiles s t name path asked owner f g p q a b same m k d e rules =
+    let x = held s f a p m name d in
+    let y = held t g b q k name e in
+    one-name SameRules (λ u v. u ≡ v) s t name path asked owner f g (λ n line. refl) (λ vs xs ys h. rules-same vs (record { path = path; owner = owner }) asked xs ys h) a b
+    same (x .0 ∙ sym (y .0))
+    (λ _. subst (λ (rs : List Rule). SameRules rs (rulesOf name (g .profiles))) (sym (x .1)) (subst (λ (rs : List Rule). SameRules (p .rules) rs) (sym (y .1)) rules))

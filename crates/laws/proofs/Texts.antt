@@ -1,7 +1,7 @@
 -- From the answers of rule lists to the answers of texts.
 use Prim.Native.Nat.{ℕ}
 use mathlib.Core.Path.{_≡_, refl, sym, ap, _∙_, subst}
-use mathlib.Core.List.{List, [], _∷_}
+use mathlib.Core.List.{List, [], _∷_, List·Memᴰ}
 use mathlib.Core.Bool.{Bool, true, false, _||_, false≢true}
 use lib.ListN.{length}
 use lib.Dec.{ltb}
@@ -128,6 +128,12 @@ accepted s n path asked owner f a =
     ∙ rw (le-ltb 65535 (length s) (a .short), a .file)
     (ap (checked false (badPath path) (badAsked asked)) (in-named (finalSets [] (f .preamble)) (record { path = path; owner = owner }) asked n (f .profiles)))
 
+-- a profile of an accepted file is found by its name
+pub held : (s : List ℕ) (f : File) → Accepted s f → (p : Profile) → List·Memᴰ p (f .profiles) → (n : List ℕ) → p .name ≡ n
+    → (named n (f .profiles) ≡ true) × (rulesOf n (f .profiles) ≡ p .rules)
+held s f a p m n e =
+    subst (λ (x : List ℕ). (named x (f .profiles) ≡ true) × (rulesOf x (f .profiles) ≡ p .rules)) e (member-named p (f .profiles) m, only-one s f (a .file) p m)
+
 -- the same profile names, in whatever order, and the rules of each name
 module _ (R : List Rule → List Rule → Type 0) (f g : File) (h : SameButRules R f g) (n : List ℕ) where
   names-same : named n (f .profiles) ≡ named n (g .profiles)
@@ -144,8 +150,8 @@ module _ (R : List Rule → List Rule → Type 0) (f g : File) (h : SameButRules
   rules-related t b e =
       let w = found n (f .profiles) e in
       let q = h .there (w .0) (w .1) in
-      let k : q .0 .rules ≡ rulesOf n (g .profiles) = sym (only-one t g (b .file) (q .0) (q .1)) ∙ ap (λ (m : List ℕ). rulesOf m (g .profiles)) (sym (q .2) ∙ w .2) in
-      subst (λ (xs : List Rule). R xs (rulesOf n (g .profiles))) (sym (w .3)) (subst (λ (ys : List Rule). R (w .0 .rules) ys) k (q .3))
+      let k : rulesOf n (g .profiles) ≡ q .0 .rules = held t g b (q .0) (q .1) n (sym (q .2) ∙ w .2) .1 in
+      subst (λ (xs : List Rule). R xs (rulesOf n (g .profiles))) (sym (w .3)) (subst (λ (ys : List Rule). R (w .0 .rules) ys) (sym k) (q .3))
 
 -- what holds of the answers of two rule lists related by R, and of a refusal with itself, holds of the answers of two accepted texts
 module _ (R : List Rule → List Rule → Type 0) (S : Answer → Answer → Type 0) (s t n path : List ℕ) (asked : ℕ) (owner : Bool) (f g : File) (self : (number line : ℕ) → S (refusal number line) (refusal number line))

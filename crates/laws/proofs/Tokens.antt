@@ -24,7 +24,7 @@ use Rattle.family.specs.Families as families
 use Rattle.laws.specs.Written as written
 use Rattle.laws.specs.Written.{Written, writtenAt, SameTokens, meaning, WrittenRules, rulesWritten, WrittenProfile, profilesWritten, WrittenFile, writtenOf, AcceptedAs, SameWritten, AddedWritten, SameButWritten, profileBy, fileBy}
 use Rattle.laws.proofs.Steps.{never, inner, step, unless}
-use Rattle.laws.proofs.Orders.{any-order, deny-added, allow-added}
+use Rattle.laws.proofs.Orders.{any-order, deny-added, allow-added, other-profiles}
 use Rattle.laws.proofs.Written.{Said, rule-said, same-meaning}
 
 -- ---- the rules of a profile
@@ -237,3 +237,11 @@ module _ (s t name path : List ℕ) (asked : ℕ) (owner : Bool) (v w : WrittenF
   allow-added-written h =
       allow-added s t name path asked owner (fileBy v) (fileBy w) (accepted-by s v a) (accepted-by t w b)
       (files-by (AddedWritten false) (Added allows) (added-by false allows (λ w e. rw e)) v w h)
+
+  -- "With the same preamble and the same rules in the asked profile, two accepted files that both hold it answer alike, whatever their
+  -- other profiles hold."
+  pub other-profiles-written : (p q : WrittenProfile) → v .preamble ≡ w .preamble → List·Memᴰ p (v .profiles) → List·Memᴰ q (w .profiles) → p .name ≡ name → q .name ≡ name
+      → SameWritten (p .rules) (q .rules) → answerOf s name path asked owner ≡ answerOf t name path asked owner
+  other-profiles-written p q e m k d f h =
+      other-profiles s t name path asked owner (fileBy v) (fileBy w) (profileBy p) (profileBy q) (accepted-by s v a) (accepted-by t w b) e (Memᴰ·map profileBy m) (Memᴰ·map profileBy k) d f
+      (same-by (p .rules) (q .rules) h)

@@ -27,10 +27,10 @@ use Rattle.tokens.specs.Tokens.{Token, comma, noStop, isWord, tokenAt, wanted}
 use Rattle.pattern.specs.Expansions.{Variable}
 use Rattle.pattern.specs.Faults.{patternFault}
 use Rattle.rule_tail.specs.Tails.{Permissions, carriedBy, permsAt, targetAt, commaAt}
-use Rattle.rule.specs.Rules.{Qualifiers, qualifiersAt, patternAt, RuleRead, ruleFrom, RulesRead, rulesAt}
+use Rattle.rule.specs.Rules.{Qualifiers, qualifiersAt, patternAt, RuleRead, ruleEnd, ruleFrom, bodyAt, Step, More, Close, ruleAt, endAt, RulesRead, stepThen, rulesAt}
 use Rattle.preamble.specs.Preamble.{preambleAt}
 use Rattle.heads.specs.Heads.{headAt}
-use Rattle.profile.specs.Profiles.{Profile, File, ends, profilesAt, fileOf}
+use Rattle.profile.specs.Profiles.{Profile, File, OneProfile, ends, profileAt, unlessEnd, profilesAt, fileOf}
 use Rattle.answer.specs.Answers.{x}
 use Rattle.laws.specs.Orders.{Accepted}
 use Rattle.laws.specs.Whole.{fits, whole, wholeFile}
@@ -151,62 +151,66 @@ perms-fit deny s at =
     go t (Carries p tr) h = good h
     go t Bad h = refused
 
-rule-whole : (vs : List Variable) (s : List ℕ) (q : Qualifiers) (t : Token) → Keeps (λ (r : RuleRead). whole (r .rule) ≡ true) (ruleFrom vs s q t)
-unfolding ruleFrom
-rule-whole vs s q t =
-    next _ (judged (patternFault vs (t .content)) (t .start)) λ u.
+rule-whole : (fault : List ℕ → ℕ) (s : List ℕ) (q : Qualifiers) (t : Token) → Keeps (λ (r : RuleRead). whole (r .rule) ≡ true) (ruleFrom fault s q t)
+unfolding ruleFrom ruleEnd
+rule-whole fault s q t =
+    next _ (judged (fault (t .content)) (t .start)) λ u.
     then _ (perms-fit (q .deny) s (t .next)) λ p h.
     next _ (targetAt (p .transition) s (p .next)) λ to.
     next _ (commaAt s (to .next)) λ n. good h
 
-rules-whole : (left : ℕ) (vs : List Variable) (s : List ℕ) (at : ℕ) → Keeps (λ (r : RulesRead). every whole (r .rules) ≡ true) (rulesAt left vs s at)
-unfolding rulesAt every
-rules-whole zero vs s at = go (standsAt (bytes "}") s at)
+abbrev WholeStep : Step → Type 0
+WholeStep (More r) = whole (r .rule) ≡ true
+WholeStep (Close n) = Unit {0}
+
+step-whole : (fault : List ℕ → ℕ) (s : List ℕ) (at : ℕ) → Keeps WholeStep (ruleAt fault s at)
+unfolding ruleAt bodyAt
+step-whole fault s at = go (standsAt (bytes "}") s at)
   where
-    go : (b : Bool) → Keeps (λ (r : RulesRead). every whole (r .rules) ≡ true)
-        (elim b as (λ _. Reading RulesRead) [ true ↦ Read (record { rules = []; next = standing s at + 1 }) | false ↦ patternAt s (qualifiersAt s at) >>= λ t. Refused 9 (t .start) ])
-    go true = good refl
-    go false = next _ (patternAt s (qualifiersAt s at)) λ t. refused
-rules-whole (suc left) vs s at = go (standsAt (bytes "}") s at) (rules-whole left vs s)
-  where
-    go : (b : Bool) → ((next : ℕ) → Keeps (λ (r : RulesRead). every whole (r .rules) ≡ true) (rulesAt left vs s next))
-        → Keeps (λ (r : RulesRead). every whole (r .rules) ≡ true)
-        (elim b as (λ _. Reading RulesRead) [
-          | true ↦ Read (record { rules = []; next = standing s at + 1 })
-          | false ↦ patternAt s (qualifiersAt s at) >>= λ t. ruleFrom vs s (qualifiersAt s at) t >>= λ r. rulesAt left vs s (r .next) >>= λ more. Read (record { rules = r .rule ∷ more .rules; next = more .next })
+    go : (b : Bool) → Keeps WholeStep
+        (elim b as (λ _. Reading Step) [
+          | true ↦ Read (Close (standing s at + 1))
+          | false ↦ patternAt s (qualifiersAt s at) >>= λ t. ruleFrom fault s (qualifiersAt s at) t >>= λ r. Read (More r)
         ])
-    go true k = good refl
-    go false k =
-        next _ (patternAt s (qualifiersAt s at)) λ t.
-        then _ (rule-whole vs s (qualifiersAt s at) t) λ r h.
-        then _ (k (r .next)) λ more g. good (ap₂ _&&_ h g)
+    go true = good tt
+    go false = next _ (patternAt s (qualifiersAt s at)) λ t. then _ (rule-whole fault s (qualifiersAt s at) t) λ r h. good h
+
+rules-whole : (left : ℕ) (fault : List ℕ → ℕ) (s : List ℕ) (at : ℕ) → Keeps (λ (r : RulesRead). every whole (r .rules) ≡ true) (rulesAt left fault s at)
+unfolding rulesAt every
+rules-whole zero fault s at = next _ (endAt s at) λ n. good refl
+rules-whole (suc left) fault s at = then _ (step-whole fault s at) λ x h. go x h (rules-whole left fault s)
+  where
+    go : (x : Step) → WholeStep x → ((next : ℕ) → Keeps (λ (r : RulesRead). every whole (r .rules) ≡ true) (rulesAt left fault s next))
+        → Keeps (λ (r : RulesRead). every whole (r .rules) ≡ true) (stepThen (λ r. rulesAt left fault s (r .next)) x)
+    go (More r) h k = then _ (k (r .next)) λ more g. good (ap₂ _&&_ h g)
+    go (Close n) h k = good refl
 
 -- ---- profiles and files
 
 abbrev wholeProfiles : List Profile → Type 0
 wholeProfiles ps = every (λ (p : Profile). every whole (p .rules)) ps ≡ true
 
+profile-whole : (full : Bool) (rulesLeft : ℕ) (used : List (List ℕ)) (vs : List Variable) (s : List ℕ) (at : ℕ)
+    → Keeps (λ (x : OneProfile). every whole (x .profile .rules) ≡ true) (profileAt full rulesLeft used vs s at)
+unfolding profileAt
+profile-whole full rulesLeft used vs s at =
+    next _ (headAt full used s at) λ h. then _ (rules-whole rulesLeft (patternFault vs) s (h .next)) λ rs g. good g
+
+end-whole : (s : List ℕ) (at : ℕ) (more : Reading (List Profile)) → Keeps wholeProfiles more → Keeps wholeProfiles (unlessEnd s at more)
+unfolding unlessEnd every
+end-whole s at more k = go (ends (tokenAt noStop s at))
+  where
+    go : (b : Bool) → Keeps wholeProfiles (elim b as (λ _. Reading (List Profile)) [ true ↦ Read [] | false ↦ more ])
+    go true = good refl
+    go false = k
+
 profiles-whole : (left rulesLeft : ℕ) (used : List (List ℕ)) (vs : List Variable) (s : List ℕ) (at : ℕ) → Keeps wholeProfiles (profilesAt left rulesLeft used vs s at)
 unfolding profilesAt every
-profiles-whole zero rulesLeft used vs s at = go (ends (tokenAt noStop s at))
-  where
-    go : (b : Bool) → Keeps wholeProfiles (elim b as (λ _. Reading (List Profile)) [ true ↦ Read [] | false ↦ headAt true used s at >>= λ h. Read [] ])
-    go true = good refl
-    go false = next _ (headAt true used s at) λ h. good refl
-profiles-whole (suc left) rulesLeft used vs s at = go (ends (tokenAt noStop s at)) (λ n u. profiles-whole left n u vs s)
-  where
-    go : (b : Bool) → ((n : ℕ) (u : List (List ℕ)) (next : ℕ) → Keeps wholeProfiles (profilesAt left n u vs s next))
-        → Keeps wholeProfiles
-        (elim b as (λ _. Reading (List Profile)) [
-          | true ↦ Read []
-          | false ↦ headAt false used s at >>= λ h. rulesAt rulesLeft vs s (h .next) >>= λ rs.
-              profilesAt left (rulesLeft - length (rs .rules)) (h .name ∷ used) vs s (rs .next) >>= λ more. Read (record { name = h .name; rules = rs .rules } ∷ more)
-        ])
-    go true k = good refl
-    go false k =
-        next _ (headAt false used s at) λ h.
-        then _ (rules-whole rulesLeft vs s (h .next)) λ rs g.
-        then _ (k (rulesLeft - length (rs .rules)) (h .name ∷ used) (rs .next)) λ more e. good (ap₂ _&&_ g e)
+profiles-whole zero rulesLeft used vs s at = end-whole s at _ (next _ (profileAt true rulesLeft used vs s at) λ x. refused)
+profiles-whole (suc left) rulesLeft used vs s at =
+    end-whole s at _
+    (then _ (profile-whole false rulesLeft used vs s at) λ x g.
+    then _ (profiles-whole left (rulesLeft - x .count) (x .profile .name ∷ used) vs s (x .next)) λ more e. good (ap₂ _&&_ g e))
 
 file-whole : (s : List ℕ) → Keeps (λ (f : File). wholeFile f ≡ true) (fileOf s)
 unfolding fileOf

@@ -1,13 +1,11 @@
 -- Pairs of texts that meet what the sentences of demand 3 suppose, so that none holds of nothing, and pairs that show where they stop.
 use Prim.Native.Nat.{ℕ}
-use Prim.Native.Char.{code}
 use Prim.Native.String.{String}
 use mathlib.Core.Path.{_≡_, refl, sym, ap, subst}
 use mathlib.Core.List.{List, [], _∷_, List·Memᴰ, List·Memᴰ·head, List·Memᴰ·tail, List·Memᴰ·not-nil, List·Memᴰ·cases-cons, List·Memᴰ·eq-of-singleton, Memᴰ·cast}
-use mathlib.Core.Bool.{Bool, true, false, _||_}
+use mathlib.Core.Bool.{Bool, true, false}
 use mathlib.Core.Logic.{⊎-elim}
 use native.Mathlib.Omega.{arith}
-use lib.Dec.{eqb}
 use Rattle.scan.specs.Bytes.{bytes}
 use Rattle.perms.specs.Sets.{perms}
 use Rattle.family.specs.Families.{SameRules, Added, none, kept, added}
@@ -18,18 +16,16 @@ use Rattle.modes.specs.declared.Execute.{Execute}
 use Rattle.modes.specs.declared.Execute.the-variants.{Conflict, ByMode}
 use Rattle.modes.specs.declared.Transition.{Transition}
 use Rattle.modes.specs.declared.Transition.the-variants as transition
-use Rattle.text.specs.Reading.{Read}
 use Rattle.rule.specs.Rules.{Rule}
 use Rattle.profile.specs.Profiles.{Profile, File}
 use Rattle.findings.specs.Findings.{allows, denies, Equal}
 use Rattle.decide.specs.Decide.{answerOf}
 use Rattle.laws.specs.Computed.{computed}
-use Rattle.laws.specs.Written.{Written, wordsBy, qualifierWords, targetsAt, writtenAt, SameTokens}
 use Rattle.laws.specs.Asked.{named, rulesOf, findingsOf, Given}
 use Rattle.laws.specs.Orders.{Accepted, SameButRules}
 
 -- a rule without audit, owner and target
-abbrev rule : (deny : Bool) → String → ℕ → Transition → Rule
+abbrev pub rule : (deny : Bool) → String → ℕ → Transition → Rule
 rule deny pattern set tr =
     record { audit = false; deny = deny; owner = false; pattern = bytes pattern; perms = perms set; transition = tr; target = [] }
 
@@ -40,7 +36,7 @@ abbrev px : Mode
 px = record { kind = kind.Profile; fallback = fallback.Absent; scrubs = false }
 
 -- the file of one profile
-abbrev only : String → List Rule → File
+abbrev pub only : String → List Rule → File
 only name rules = record { preamble = []; profiles = record { name = bytes name; rules = rules } ∷ [] }
 
 -- two files of one profile, of the same name
@@ -56,16 +52,16 @@ one-profile R name {xs} {ys} h =
 
 -- ---- the same rules
 
-abbrev ordered : String
+abbrev pub ordered : String
 ordered = "/p { /a r, /b w, }"
 
-abbrev shuffled : String
+abbrev pub shuffled : String
 shuffled = "profile /p { /b ww, # again\n \"/a\" r, allow /a rr, }"
 
-abbrev readA : Rule
+abbrev pub readA : Rule
 readA = rule false "/a" 1 transition.Absent
 
-abbrev writeB : Rule
+abbrev pub writeB : Rule
 writeB = rule false "/b" 6 transition.Absent
 
 pub ordered-file : Accepted (bytes ordered) (only "/p" (readA ∷ writeB ∷ []))
@@ -124,10 +120,10 @@ other-order =
 
 -- ---- deny rules added
 
-abbrev opened : Rule
+abbrev pub opened : Rule
 opened = rule false "/a*" 7 transition.Absent
 
-abbrev barred : Rule
+abbrev pub barred : Rule
 barred = rule true "/ab" 6 transition.Absent
 
 pub open-file : Accepted (bytes "/p { /a* rw, }") (only "/p" (opened ∷ []))
@@ -187,24 +183,12 @@ transition-changes = (refl, refl)
 abbrev alone : File
 alone = only "/p" (readA ∷ [])
 
-abbrev beside : File
-beside = record { preamble = []; profiles = record { name = bytes "/q"; rules = writeB ∷ [] } ∷ record { name = bytes "/p"; rules = readA ∷ [] } ∷ [] }
-
 pub alone-file : Accepted (bytes "/p { /a r, }") alone
 unfolding computed
 alone-file = record { short = omega arith; file = refl }
 
-pub beside-file : Accepted (bytes "/q { /b w, } profile /p { /a r, }") beside
-unfolding computed
-beside-file = record { short = omega arith; file = refl }
-
-pub both-hold : (named (bytes "/p") (alone .profiles) ≡ true) × (named (bytes "/p") (beside .profiles) ≡ true)
-unfolding computed named
-both-hold = (refl, refl)
-
-pub both-alike : rulesOf (bytes "/p") (alone .profiles) ≡ rulesOf (bytes "/p") (beside .profiles)
-unfolding computed rulesOf
-both-alike = refl
+pub both-hold : List·Memᴰ profileP (alone .profiles) × List·Memᴰ profileP (qp .profiles)
+both-hold = (List·Memᴰ·head refl, List·Memᴰ·tail (List·Memᴰ·head refl))
 
 -- ---- equal findings of two texts, on other paths and with other owner marks
 
@@ -221,44 +205,3 @@ found-alike = record { allowed = refl; allowedAudit = refl; denied = refl; denie
 pub found-answered : Given (answerOf (bytes reads) (bytes "/p") (bytes "/a") 33 false) × Given (answerOf (bytes ownerReads) (bytes "q") (bytes "/b") 33 true)
 unfolding computed
 found-answered = (refl, refl)
-
--- ---- two rules whose tokens are the same, quotes, a written allow and the order and repeating of letters aside
-
-abbrev quotedRule : String
-quotedRule = "audit allow \"/a\" rpx -> \"t\" ,"
-
-abbrev plainRule : String
-plainRule = "audit /a pxrr ->t,"
-
-abbrev quotedWritten : Written
-quotedWritten = record { qualifiers = bytes "audit" ∷ bytes "allow" ∷ []; pattern = bytes "/a"; perms = bytes "rpx"; target = bytes "t" ∷ []; next = 29 }
-
-abbrev plainWritten : Written
-plainWritten = record { qualifiers = bytes "audit" ∷ []; pattern = bytes "/a"; perms = bytes "pxrr"; target = bytes "t" ∷ []; next = 18 }
-
-pub quoted-tokens : writtenAt (bytes quotedRule) 0 ≡ Read quotedWritten
-unfolding computed writtenAt qualifierWords wordsBy targetsAt
-quoted-tokens = refl
-
-pub plain-tokens : writtenAt (bytes plainRule) 0 ≡ Read plainWritten
-unfolding computed writtenAt qualifierWords wordsBy targetsAt
-plain-tokens = refl
-
-pub same-tokens : SameTokens quotedWritten plainWritten
-unfolding computed
-same-tokens =
-    record {
-      qualifiers = λ w e. rw e;
-      pattern = refl;
-      letters = λ b. order (eqb b (code "r")) (eqb b (code "p")) (eqb b (code "x"));
-      mode = refl;
-      target = refl;
-    }
-  where
-    order : (r p x : Bool) → (r || (p || (x || false))) ≡ (p || (x || (r || (r || false))))
-    order true true x = refl
-    order true false true = refl
-    order true false false = refl
-    order false true x = refl
-    order false false true = refl
-    order false false false = refl

@@ -6,3 +6,4 @@ pub mod Files
 pub mod Whole
 pub mod Written
 pub mod Examples
+pub mod WrittenExamples

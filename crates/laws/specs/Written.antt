@@ -33,7 +33,7 @@ pub record Written : Type 0 where
   pub target : List (List ℕ)
   pub next : ℕ
 
--- these words, each where it was found
+-- a word, where it was found; the four words, each where it was found
 abbrev pub wordIf : Bool → List ℕ → List (List ℕ)
 wordIf found w = if found then w ∷ [] else []
 
@@ -49,6 +49,7 @@ qualifierWords s at =
     let o : Optional = optional (bytes "owner") s (d .next) in
     wordsBy (a .found) (l .found) (d .found) (o .found)
 
+-- the target's bytes, where there is one, and where reading goes on
 pub record Targets : Type 0 where
   pub words : List (List ℕ)
   pub next : ℕ
@@ -74,7 +75,8 @@ writtenAt s at = do
 
 -- ---- the same rules
 
--- "Rules are the same when their tokens are, quotes, a written allow and the order or repeating of letters in PERMS aside."
+-- "Rules are the same when their tokens are, quotes, a written allow and the order or repeating of letters in PERMS aside": PERMS holds
+-- the same letters and the same mode
 pub record SameTokens (v w : Written) : Type 0 where
   pub qualifiers : (word : List ℕ) → same word (bytes "allow") ≡ false → some (same word) (v .qualifiers) ≡ some (same word) (w .qualifiers)
   pub pattern : v .pattern ≡ w .pattern
@@ -84,6 +86,7 @@ pub record SameTokens (v w : Written) : Type 0 where
 
 -- ---- what the tokens of a rule say
 
+-- what a word carries, and its transition; nothing where it is bad
 abbrev pub permsBy : Word → Perms
 permsBy (Carries p tr) = p
 permsBy Bad = perms 0
@@ -92,6 +95,7 @@ abbrev pub transitionBy : Word → Transition
 transitionBy (Carries p tr) = tr
 transitionBy Bad = Absent
 
+-- the target, empty where there is none
 abbrev pub targetBy : List (List ℕ) → List ℕ
 targetBy [] = []
 targetBy (t ∷ ts) = t
@@ -100,6 +104,7 @@ targetBy (t ∷ ts) = t
 abbrev pub says : (deny : Bool) → List ℕ → Word
 says deny w = withMode deny (perms (carried w)) (modePart w)
 
+-- the rule that the tokens say
 unfoldable pub meaning : Written → Rule
 meaning w =
     let has : List ℕ → Bool = λ word. some (same word) (w .qualifiers) in
@@ -116,6 +121,7 @@ meaning w =
 
 -- ---- a whole text
 
+-- the rules of a profile, and where reading goes on
 pub record WrittenRules : Type 0 where
   pub rules : List Written
   pub next : ℕ
@@ -136,11 +142,12 @@ rulesWritten (suc left) s at =
         Read (record { rules = w ∷ more .rules; next = more .next })
     ]
 
+-- a profile: its name and the tokens of its rules
 pub record WrittenProfile : Type 0 where
   pub name : List ℕ
   pub rules : List Written
 
--- the profiles from a place on, at most so many
+-- the profiles from a place on, up to the text's end or so many
 unfoldable pub profilesWritten : (left : ℕ) → List ℕ → ℕ → Reading (List WrittenProfile)
 profilesWritten zero s at = Read []
 profilesWritten (suc left) s at =
@@ -154,7 +161,7 @@ profilesWritten (suc left) s at =
         Read (record { name = t .content; rules = rs .rules } ∷ more)
     ]
 
--- "The preamble is the assignments in order."
+-- a text: "the preamble is the assignments in order", and its profiles
 pub record WrittenFile : Type 0 where
   pub preamble : List Assignment
   pub profiles : List WrittenProfile

@@ -14,16 +14,16 @@ use Rattle.pattern.specs.Pieces.{Piece, Byte, Part, parts}
 use Rattle.pattern.specs.Items.{Item, items, before, alternatives}
 use Rattle.pattern.specs.Places.{partAt, partEnd, itemAt, itemEnd}
 use Rattle.pattern.specs.Expansions.{across, ofPart, ofParts, oneOf, ofItem, ofItems}
-use Rattle.pattern.specs.Table.{bytesAt, valuesFrom, valuesOf}
+use Rattle.pattern.specs.Table.{bytesAt, valuesFrom, valuesOf, numberOf}
 use Rattle.pattern.specs.Literals.{ordinary}
 use Rattle.pattern.proofs.Literals.{literalPart, literalItem, parts-run, items-run}
 use Rattle.sizes.specs.declared.Size.{Size}
-use Rattle.sizes.specs.Sizes.{sizeOf, timesOf, plusOf, noSize, nilSize}
-use Rattle.sizes.specs.Numbered.{Numbered, numbering, pieceSize}
+use Rattle.sizes.specs.Sizes.{sizeOf, sizeAt, timesOf, plusOf, noSize, nilSize}
+use Rattle.sizes.specs.Numbered.{Numbered, numbering, nameBy, pieceSize}
 use Rattle.sizes.proofs.Across.{across-one}
 use Rattle.sizes.proofs.Laws.{size-across, size-eq, size-nil, size-one, size-piece}
 use Rattle.sizes.proofs.Algebra.{times-assoc, times-cut, nil-times, plus-assoc, plus-cut, none-plus}
-use Rattle.sizes.proofs.Steps.{parts-next, parts-last, items-next, items-last, values-next, values-last, values-whole, alternative-next, alternative-end}
+use Rattle.sizes.proofs.Steps.{parts-next, parts-last, items-next, items-last, values-next, values-last, values-whole, alternative-next, alternative-end, name-number, number-size}
 
 -- ---- neighbours: the size of the whole is that of those passed and of the rest; what is passed is cut to its bounds
 
@@ -133,10 +133,16 @@ literals-some s at end h k =
     ∙ size-one (Byte (getD s at 0)) (map Byte (take (end - at - 1) (drop (suc at) s)))
     ∙ size-eq refl (rw length-map (omega arith)) refl refl
 
--- ---- a loop over parts or items and the literals after each
+-- ---- a name has the size that the table has under its number
 
 sizes-eq : {a b : Numbered} → a ≡ b → a .size ≡ b .size
 sizes-eq e = ap (λ (x : Numbered). x .size) e
+
+pub name-size : {z : Size} {r : ℕ} (text vars table : List ℕ) (n : ℕ) (name : List ℕ) → z ≡ sizeAt table r → r ≡ numberOf text vars n name →
+    z ≡ nameBy text vars table n name .size
+name-size text vars table n name e d = e ∙ ap (sizeAt table) d ∙ sym (sizes-eq (name-number text vars table n name) ∙ number-size text vars table (numberOf text vars n name))
+
+-- ---- a loop over parts or items and the literals after each
 
 module _ (f : List ℕ → Numbered) (s : List ℕ) where
   abbrev pub partsFrom : ℕ → Size

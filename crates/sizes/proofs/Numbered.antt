@@ -20,11 +20,11 @@ use Rattle.sizes.proofs.Laws.{size-across, size-append, size-count, siz
 
 -- ---- digits
 
-pub low-some : (d base : ℕ) → 0 < base → lowOf d base ≡ d % base
+low-some : (d base : ℕ) → 0 < base → lowOf d base ≡ d % base
 unfolding lowOf
 low-some d base h = rw (ne-eqb base 0 (λ q. omega arith), lowOf)
 
-pub high-some : (d base : ℕ) → 0 < base → highOf d base ≡ d / base
+high-some : (d base : ℕ) → 0 < base → highOf d base ≡ d / base
 unfolding highOf
 high-some d base h = rw (ne-eqb base 0 (λ q. omega arith), highOf)
 

@@ -1,12 +1,11 @@
 use native.Mathlib.Omega.{arith}
 use denote.Ref.{now}
-use mathlib.Core.Path.{refl, sym, _∙_}
+use mathlib.Core.Path.{refl}
 use Prim.Native.Nat.{min}
-use Rattle.pattern.specs.Table.{numberOf}
 use Rattle.pattern.proofs.Laws.{number-le}
 use Rattle.scan.specs.Bytes.{span}
 use Rattle.sizes.proofs.Laws.{size-eq}
-use Rattle.sizes.proofs.Steps.{name-number, number-size}
+use Rattle.sizes.proofs.Loops.{name-size}
 use borrow.Author.Needs.{needs}
 use Rattle.measure.proofs.part_size.Statement.{statement}
 use Rattle.measure.proofs.part_size.Tie as tie
@@ -42,9 +41,7 @@ returns-2 : tie.Need-returns-2
 returns-2 c = let c-p2 = (c .before .before .before .p2) in
     let c-args = (c .before .before .before .before .before .before .args) in
     rw (c-p2 .given .1)
-    (c .size-at .ensures
-    ∙ rw (c .before .named .ensures, name-number (now (c-args .text)) (now (c-args .vars)) (now (c-args .sizes)) (min 32 (c-args .n)))
-    (sym (number-size (now (c-args .text)) (now (c-args .vars)) (now (c-args .sizes)) (numberOf (now (c-args .text)) (now (c-args .vars)) (min 32 (c-args .n)) (span (now (c-args .text)) (c-p2 .given .0 .0) (c-p2 .given .0 .1 .0))))))
+    (name-size (now (c-args .text)) (now (c-args .vars)) (now (c-args .sizes)) (min 32 (c-args .n)) (span (now (c-args .text)) (c-p2 .given .0 .0) (c-p2 .given .0 .1 .0)) (c .size-at .ensures) (c .before .named .ensures))
 
 returns-3 : tie.Need-returns-3
 returns-3 c = rw (c .before .enum-told .given .1) (c .no-size .ensures)
