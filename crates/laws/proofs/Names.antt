@@ -14,10 +14,11 @@ use Rattle.tokens.specs.Tokens.{Token, noStop, tokenAt}
 use Rattle.blanks.specs.Blanks.{standing}
 use Rattle.keywords.specs.Keywords.{firstWord, notTaken}
 use Rattle.pattern.specs.Expansions.{Variable}
-use Rattle.rule.specs.Rules.{Rule, RulesRead, rulesAt}
+use Rattle.pattern.specs.Faults.{patternFault}
+use Rattle.rule.specs.Rules.{Rule, rulesAt}
 use Rattle.preamble.specs.Preamble.{preambleAt}
 use Rattle.heads.specs.Heads.{Head, nameAt, openAt, headAt}
-use Rattle.profile.specs.Profiles.{Profile, File, ends, profilesAt, fileOf}
+use Rattle.profile.specs.Profiles.{Profile, File, OneProfile, ends, profileAt, unlessEnd, profilesAt, fileOf}
 use Rattle.laws.specs.Asked.{named, rulesOf}
 use Rattle.laws.proofs.Steps.{never, inner, step, unless, passed}
 
@@ -82,32 +83,37 @@ once-more used x ps f o p m = ⊎-elim here later (List·Memᴰ·cases-cons m)
 
 -- ---- the profiles of a text
 
+-- and so is a profile's
+profile-free : (full : Bool) (rulesLeft : ℕ) (used : List (List ℕ)) (vs : List Variable) (s : List ℕ) (at : ℕ) (x : OneProfile) → profileAt full rulesLeft used vs s at ≡ Read x
+    → some (same (x .profile .name)) used ≡ false
+unfolding profileAt
+profile-free full rulesLeft used vs s at x e =
+    let a = step (headAt full used s at) _ x e in
+    let b = step (rulesAt rulesLeft (patternFault vs) s (a .0 .next)) _ x (a .2) in
+    ap (λ (y : OneProfile). some (same (y .profile .name)) used) (inner (b .2)) ∙ head-free full used s at (a .0) (a .1)
+
 profiles-once : (left rulesLeft : ℕ) (used : List (List ℕ)) (vs : List Variable) (s : List ℕ) (at : ℕ) (ps : List Profile)
     → profilesAt left rulesLeft used vs s at ≡ Read ps → Once used ps
-unfolding profilesAt
+unfolding profilesAt unlessEnd
 profiles-once zero rulesLeft used vs s at ps e = go (ends (tokenAt noStop s at)) e
   where
-    go : (b : Bool) → (elim b as (λ _. Reading (List Profile)) [ true ↦ Read [] | false ↦ headAt true used s at >>= λ h. Read [] ]) ≡ Read ps → Once used ps
+    go : (b : Bool) → (elim b as (λ _. Reading (List Profile)) [ true ↦ Read [] | false ↦ profileAt true rulesLeft used vs s at >>= λ x. Refused 9 at ]) ≡ Read ps → Once used ps
     go true q = subst (Once used) (sym (inner q)) (once-none used)
-    go false q = subst (Once used) (sym (inner (step (headAt true used s at) _ ps q .2))) (once-none used)
+    go false q = absurd (never (step (profileAt true rulesLeft used vs s at) _ ps q .2))
 profiles-once (suc left) rulesLeft used vs s at ps e =
-    go (λ h rs more. profiles-once left (rulesLeft - length (rs .rules)) (h .name ∷ used) vs s (rs .next) more) (ends (tokenAt noStop s at)) e
+    go (λ x more. profiles-once left (rulesLeft - x .count) (x .profile .name ∷ used) vs s (x .next) more) (ends (tokenAt noStop s at)) e
   where
-    rest : Head → RulesRead → Reading (List Profile)
-    rest h rs = profilesAt left (rulesLeft - length (rs .rules)) (h .name ∷ used) vs s (rs .next)
+    rest : OneProfile → Reading (List Profile)
+    rest x = profilesAt left (rulesLeft - x .count) (x .profile .name ∷ used) vs s (x .next)
 
-    go : ((h : Head) (rs : RulesRead) (more : List Profile) → rest h rs ≡ Read more → Once (h .name ∷ used) more) → (b : Bool)
-        → (elim b as (λ _. Reading (List Profile)) [
-          | true ↦ Read []
-          | false ↦ headAt false used s at >>= λ h. rulesAt rulesLeft vs s (h .next) >>= λ rs. rest h rs >>= λ more. Read (record { name = h .name; rules = rs .rules } ∷ more)
-        ]) ≡ Read ps → Once used ps
+    go : ((x : OneProfile) (more : List Profile) → rest x ≡ Read more → Once (x .profile .name ∷ used) more) → (b : Bool)
+        → (elim b as (λ _. Reading (List Profile)) [ true ↦ Read [] | false ↦ profileAt false rulesLeft used vs s at >>= λ x. rest x >>= λ more. Read (x .profile ∷ more) ]) ≡ Read ps
+        → Once used ps
     go i true q = subst (Once used) (sym (inner q)) (once-none used)
     go i false q =
-        let a = step (headAt false used s at) _ ps q in
-        let b = step (rulesAt rulesLeft vs s (a .0 .next)) _ ps (a .2) in
-        let c = step (rest (a .0) (b .0)) _ ps (b .2) in
-        let x : Profile = record { name = a .0 .name; rules = b .0 .rules } in
-        subst (Once used) (sym (inner (c .2))) (once-more used x (c .0) (head-free false used s at (a .0) (a .1)) (i (a .0) (b .0) (c .0) (c .1)))
+        let a = step (profileAt false rulesLeft used vs s at) _ ps q in
+        let b = step (rest (a .0)) _ ps (a .2) in
+        subst (Once used) (sym (inner (b .2))) (once-more used (a .0 .profile) (b .0) (profile-free false rulesLeft used vs s at (a .0) (a .1)) (i (a .0) (b .0) (b .1)))
 
 -- a profile of an accepted file is the one of its name
 pub only-one : (s : List ℕ) (f : File) → fileOf s ≡ Read f → (p : Profile) → List·Memᴰ p (f .profiles) → rulesOf (p .name) (f .profiles) ≡ p .rules

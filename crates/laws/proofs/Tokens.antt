@@ -12,10 +12,11 @@ use Rattle.tokens.specs.Tokens.{Token, noStop, tokenAt}
 use Rattle.blanks.specs.Blanks.{standing, standsAt}
 use Rattle.keywords.specs.Keywords.{firstWord, notTaken}
 use Rattle.pattern.specs.Expansions.{Variable}
-use Rattle.rule.specs.Rules.{Rule, Qualifiers, RuleRead, RulesRead, qualifiersAt, patternAt, ruleFrom, rulesAt}
+use Rattle.pattern.specs.Faults.{patternFault}
+use Rattle.rule.specs.Rules.{Rule, Qualifiers, RuleRead, qualifiersAt, patternAt, ruleFrom, bodyAt, Step, More, Close, ruleAt, endAt, RulesRead, noRules, stepThen, rulesAt}
 use Rattle.preamble.specs.Preamble.{Preamble, preambleAt}
 use Rattle.heads.specs.Heads.{Head, nameAt, openAt, headAt}
-use Rattle.profile.specs.Profiles.{Profile, File, ends, profilesAt, fileOf}
+use Rattle.profile.specs.Profiles.{Profile, File, OneProfile, oneProfile, ends, profileAt, unlessEnd, profilesAt, fileOf}
 use Rattle.findings.specs.Findings.{allows, denies}
 use Rattle.decide.specs.Decide.{answerOf}
 use Rattle.laws.specs.Orders.{Accepted, SameButRules, NoMore, NoLess}
@@ -25,7 +26,7 @@ use Rattle.laws.specs.Written as written
 use Rattle.laws.specs.Written.{Written, writtenAt, SameTokens, meaning, WrittenRules, rulesWritten, WrittenProfile, profilesWritten, WrittenFile, writtenOf, AcceptedAs, SameWritten, AddedWritten, SameButWritten, profileBy, fileBy}
 use Rattle.laws.proofs.Steps.{never, inner, step, unless}
 use Rattle.laws.proofs.Orders.{any-order, deny-added, allow-added, other-profiles}
-use Rattle.laws.proofs.Written.{Said, rule-said, same-meaning}
+use Rattle.laws.proofs.Written.{Said, step-said, same-meaning}
 
 -- ---- the rules of a profile
 
@@ -36,22 +37,18 @@ record RulesSaid (left : ℕ) (s : List ℕ) (at : ℕ) (rs : RulesRead) : Type 
   next : rs .next ≡ written .next
   said : map meaning (written .rules) ≡ rs .rules
 
-said-none : (left : ℕ) (s : List ℕ) (at : ℕ) (rs : RulesRead) → standsAt (bytes "}") s at ≡ true → Read (record { rules = []; next = standing s at + 1 }) ≡ Read rs
-    → RulesSaid left s at rs
+said-none : (left : ℕ) (s : List ℕ) (at : ℕ) (rs : RulesRead) → standsAt (bytes "}") s at ≡ true → rs ≡ noRules (standing s at + 1) → RulesSaid left s at rs
 unfolding rulesWritten
-said-none left s at rs h e =
-    let k = inner e in
-    record { written = record { rules = []; next = standing s at + 1 }; stands = by left; next = rw k; said = rw k }
+said-none left s at rs h k = record { written = record { rules = []; next = standing s at + 1 }; stands = by left; next = rw k; said = rw k }
   where
     by : (n : ℕ) → rulesWritten n s at ≡ Read (record { rules = []; next = standing s at + 1 })
     by zero = rw (h, rulesWritten)
     by (suc n) = rw (h, rulesWritten)
 
 said-more : (left : ℕ) (s : List ℕ) (at : ℕ) (rs : RulesRead) (r : RuleRead) (more : RulesRead) → standsAt (bytes "}") s at ≡ false → Said s at r
-    → RulesSaid left s (r .next) more → Read (record { rules = r .rule ∷ more .rules; next = more .next }) ≡ Read rs → RulesSaid (suc left) s at rs
+    → RulesSaid left s (r .next) more → rs ≡ record { rules = r .rule ∷ more .rules; next = more .next } → RulesSaid (suc left) s at rs
 unfolding rulesWritten
-said-more left s at rs r more h x y e =
-    let k = inner e in
+said-more left s at rs r more h x y k =
     record {
       written = record { rules = x .written ∷ y .written .rules; next = y .written .next };
       stands = rw (h, rulesWritten, x .stands, ← x .next, y .stands);
@@ -59,32 +56,53 @@ said-more left s at rs r more h x y e =
       said = rw (k, x .said, y .said);
     }
 
-rules-said : (left k : ℕ) → left ≤ k → (vs : List Variable) (s : List ℕ) (at : ℕ) (rs : RulesRead) → rulesAt left vs s at ≡ Read rs → RulesSaid k s at rs
-unfolding rulesAt
-rules-said zero k h vs s at rs e = go (standsAt (bytes "}") s at) refl e
+-- where a profile ends
+end-said : (s : List ℕ) (at n : ℕ) → endAt s at ≡ Read n → (standsAt (bytes "}") s at ≡ true) × (n ≡ standing s at + 1)
+unfolding endAt bodyAt
+end-said s at n e = go (standsAt (bytes "}") s at) refl e
   where
     go : (b : Bool) → standsAt (bytes "}") s at ≡ b
-        → (elim b as (λ _. Reading RulesRead) [ true ↦ Read (record { rules = []; next = standing s at + 1 }) | false ↦ patternAt s (qualifiersAt s at) >>= λ t. Refused 9 (t .start) ]) ≡ Read rs
-        → RulesSaid k s at rs
-    go true f q = said-none k s at rs f q
-    go false f q = absurd (never (step (patternAt s (qualifiersAt s at)) _ rs q .2))
-rules-said (suc left) zero h vs s at rs e = absurd (omega arith)
-rules-said (suc left) (suc k) h vs s at rs e = go (λ r more. rules-said left k (omega arith) vs s (r .next) more) (standsAt (bytes "}") s at) refl e
+        → (elim b as (λ _. Reading ℕ) [ true ↦ Read (standing s at + 1) | false ↦ patternAt s (qualifiersAt s at) >>= λ t. Refused 9 (t .start) ]) ≡ Read n
+        → (standsAt (bytes "}") s at ≡ true) × (n ≡ standing s at + 1)
+    go true h f = (h, inner f)
+    go false h f = absurd (never (step (patternAt s (qualifiersAt s at)) _ n f .2))
+
+close-said : (fault : List ℕ → ℕ) (s : List ℕ) (at n : ℕ) → ruleAt fault s at ≡ Read (Close n) → (standsAt (bytes "}") s at ≡ true) × (n ≡ standing s at + 1)
+unfolding ruleAt bodyAt
+close-said fault s at n e = go (standsAt (bytes "}") s at) refl e
   where
     q : Qualifiers
     q = qualifiersAt s at
 
-    go : ((r : RuleRead) (more : RulesRead) → rulesAt left vs s (r .next) ≡ Read more → RulesSaid k s (r .next) more) → (b : Bool) → standsAt (bytes "}") s at ≡ b
-        → (elim b as (λ _. Reading RulesRead) [
-          | true ↦ Read (record { rules = []; next = standing s at + 1 })
-          | false ↦ patternAt s q >>= λ t. ruleFrom vs s q t >>= λ r. rulesAt left vs s (r .next) >>= λ more. Read (record { rules = r .rule ∷ more .rules; next = more .next })
-        ]) ≡ Read rs → RulesSaid (suc k) s at rs
-    go i true f e = said-none (suc k) s at rs f e
-    go i false f e =
-        let a = step (patternAt s q) _ rs e in
-        let b = step (ruleFrom vs s q (a .0)) _ rs (a .2) in
-        let c = step (rulesAt left vs s (b .0 .next)) _ rs (b .2) in
-        said-more k s at rs (b .0) (c .0) f (rule-said vs s at (a .0) (b .0) (a .1) (b .1)) (i (b .0) (c .0) (c .1)) (c .2)
+    none : (r : RuleRead) → Read (More r) ≡ Read (Close n) → ⊥
+    none r f = let z : _≡_ {A = ℕ} 0 1 = cc in omega arith
+
+    go : (b : Bool) → standsAt (bytes "}") s at ≡ b
+        → (elim b as (λ _. Reading Step) [ true ↦ Read (Close (standing s at + 1)) | false ↦ patternAt s q >>= λ t. ruleFrom fault s q t >>= λ x. Read (More x) ]) ≡ Read (Close n)
+        → (standsAt (bytes "}") s at ≡ true) × (n ≡ standing s at + 1)
+    go true h f = (h, cc)
+    go false h f =
+        let a = step (patternAt s q) _ (Close n) f in
+        let b = step (ruleFrom fault s q (a .0)) _ (Close n) (a .2) in
+        absurd (none (b .0) (b .2))
+
+rules-said : (left k : ℕ) → left ≤ k → (fault : List ℕ → ℕ) (s : List ℕ) (at : ℕ) (rs : RulesRead) → rulesAt left fault s at ≡ Read rs → RulesSaid k s at rs
+unfolding rulesAt
+rules-said zero k h fault s at rs e =
+    let a = step (endAt s at) _ rs e in
+    let b = end-said s at (a .0) (a .1) in
+    said-none k s at rs (b .0) (inner (a .2) ∙ ap noRules (b .1))
+rules-said (suc left) zero h fault s at rs e = absurd (omega arith)
+rules-said (suc left) (suc k) h fault s at rs e = go (λ r more. rules-said left k (omega arith) fault s (r .next) more) (ruleAt fault s at) refl e
+  where
+    go : ((r : RuleRead) (more : RulesRead) → rulesAt left fault s (r .next) ≡ Read more → RulesSaid k s (r .next) more) → (x : Reading Step) → ruleAt fault s at ≡ x
+        → (x >>= stepThen (λ r. rulesAt left fault s (r .next))) ≡ Read rs → RulesSaid (suc k) s at rs
+    go i (Read (More r)) f e =
+        let a = step (rulesAt left fault s (r .next)) _ rs e in
+        let b = step-said fault s at r f in
+        said-more k s at rs r (a .0) (b .0) (b .1) (i r (a .0) (a .1)) (inner (a .2))
+    go i (Read (Close n)) f e = let b = close-said fault s at n f in said-none (suc k) s at rs (b .0) (inner e ∙ ap noRules (b .1))
+    go i (Refused n p) f e = absurd (never e)
 
 -- ---- all profiles
 
@@ -120,43 +138,42 @@ profiles-none left s at ps h e = record { written = []; stands = by left; said =
     by zero = refl
     by (suc n) = rw (h, profilesWritten)
 
-profiles-more : (left : ℕ) (s : List ℕ) (at : ℕ) (ps : List Profile) (h : Head) (rs : RulesRead) (more : List Profile) → ends (tokenAt noStop s at) ≡ false → HeadSaid s at h
-    → RulesSaid 512 s (h .next) rs → ProfilesSaid left s (rs .next) more → Read (record { name = h .name; rules = rs .rules } ∷ more) ≡ Read ps → ProfilesSaid (suc left) s at ps
+profiles-more : (left : ℕ) (s : List ℕ) (at : ℕ) (ps : List Profile) (h : Head) (rs : RulesRead) (x : OneProfile) (more : List Profile) → ends (tokenAt noStop s at) ≡ false
+    → HeadSaid s at h → RulesSaid 512 s (h .next) rs → x ≡ oneProfile (h .name) rs → ProfilesSaid left s (x .next) more → ps ≡ x .profile ∷ more → ProfilesSaid (suc left) s at ps
 unfolding profilesWritten
-profiles-more left s at ps h rs more f x y z e =
-    let k = inner e in
+profiles-more left s at ps h rs x more f y z e w k =
     record {
-      written = record { name = x .token .content; rules = y .written .rules } ∷ z .written;
-      stands = rw (f, profilesWritten, x .stands, x .opens, y .stands, ← y .next, z .stands);
-      said = rw (k, x .said, y .said, z .said);
+      written = record { name = y .token .content; rules = z .written .rules } ∷ w .written;
+      stands = rw (f, profilesWritten, y .stands, y .opens, z .stands, ← z .next, ← ap (λ (u : OneProfile). u .next) e, w .stands);
+      said = rw (k, e, y .said, z .said, w .said);
     }
 
 profiles-said : (left rulesLeft : ℕ) (used : List (List ℕ)) (vs : List Variable) (s : List ℕ) (at : ℕ) (ps : List Profile) → rulesLeft ≤ 512
     → profilesAt left rulesLeft used vs s at ≡ Read ps → ProfilesSaid left s at ps
-unfolding profilesAt profilesWritten
-profiles-said zero rulesLeft used vs s at ps l e = record { written = []; stands = refl; said = go (ends (tokenAt noStop s at)) e }
+unfolding profilesAt unlessEnd profileAt
+profiles-said zero rulesLeft used vs s at ps l e = go (ends (tokenAt noStop s at)) refl e
   where
-    go : (b : Bool) → (elim b as (λ _. Reading (List Profile)) [ true ↦ Read [] | false ↦ headAt true used s at >>= λ h. Read [] ]) ≡ Read ps → [] ≡ ps
-    go true q = sym (inner q)
-    go false q = sym (inner (step (headAt true used s at) _ ps q .2))
+    go : (b : Bool) → ends (tokenAt noStop s at) ≡ b
+        → (elim b as (λ _. Reading (List Profile)) [ true ↦ Read [] | false ↦ profileAt true rulesLeft used vs s at >>= λ x. Refused 9 at ]) ≡ Read ps → ProfilesSaid 0 s at ps
+    go true f q = profiles-none 0 s at ps f q
+    go false f q = absurd (never (step (profileAt true rulesLeft used vs s at) _ ps q .2))
 profiles-said (suc left) rulesLeft used vs s at ps l e =
-    go (λ h rs more. profiles-said left (rulesLeft - length (rs .rules)) (h .name ∷ used) vs s (rs .next) more (omega arith)) (ends (tokenAt noStop s at)) refl e
+    go (λ x more. profiles-said left (rulesLeft - x .count) (x .profile .name ∷ used) vs s (x .next) more (omega arith)) (ends (tokenAt noStop s at)) refl e
   where
-    rest : Head → RulesRead → Reading (List Profile)
-    rest h rs = profilesAt left (rulesLeft - length (rs .rules)) (h .name ∷ used) vs s (rs .next)
+    rest : OneProfile → Reading (List Profile)
+    rest x = profilesAt left (rulesLeft - x .count) (x .profile .name ∷ used) vs s (x .next)
 
-    go : ((h : Head) (rs : RulesRead) (more : List Profile) → rest h rs ≡ Read more → ProfilesSaid left s (rs .next) more) → (b : Bool) → ends (tokenAt noStop s at) ≡ b
-        → (elim b as (λ _. Reading (List Profile)) [
-          | true ↦ Read []
-          | false ↦ headAt false used s at >>= λ h. rulesAt rulesLeft vs s (h .next) >>= λ rs. rest h rs >>= λ more. Read (record { name = h .name; rules = rs .rules } ∷ more)
-        ]) ≡ Read ps → ProfilesSaid (suc left) s at ps
+    go : ((x : OneProfile) (more : List Profile) → rest x ≡ Read more → ProfilesSaid left s (x .next) more) → (b : Bool) → ends (tokenAt noStop s at) ≡ b
+        → (elim b as (λ _. Reading (List Profile)) [ true ↦ Read [] | false ↦ profileAt false rulesLeft used vs s at >>= λ x. rest x >>= λ more. Read (x .profile ∷ more) ]) ≡ Read ps
+        → ProfilesSaid (suc left) s at ps
     go i true f q = profiles-none (suc left) s at ps f q
     go i false f q =
-        let a = step (headAt false used s at) _ ps q in
-        let b = step (rulesAt rulesLeft vs s (a .0 .next)) _ ps (a .2) in
-        let c = step (rest (a .0) (b .0)) _ ps (b .2) in
-        profiles-more left s at ps (a .0) (b .0) (c .0) f (head-said false used s at (a .0) (a .1)) (rules-said rulesLeft 512 l vs s (a .0 .next) (b .0) (b .1)) (i (a .0) (b .0) (c .0) (c .1))
-        (c .2)
+        let a = step (profileAt false rulesLeft used vs s at) _ ps q in
+        let b = step (rest (a .0)) _ ps (a .2) in
+        let c = step (headAt false used s at) _ (a .0) (a .1) in
+        let d = step (rulesAt rulesLeft (patternFault vs) s (c .0 .next)) _ (a .0) (c .2) in
+        profiles-more left s at ps (c .0) (d .0) (a .0) (b .0) f (head-said false used s at (c .0) (c .1)) (rules-said rulesLeft 512 l (patternFault vs) s (c .0 .next) (d .0) (d .1)) (inner (d .2))
+        (i (a .0) (b .0) (b .1)) (inner (b .2))
 
 -- ---- a whole text
 

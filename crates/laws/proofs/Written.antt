@@ -21,11 +21,8 @@ use Rattle.blanks.specs.Blanks.{standing, standsAt}
 use Rattle.tokens.specs.Tokens.{Token, comma, noStop, isWord, tokenAt, wanted}
 use Rattle.keywords.specs.Keywords.{barred, firstWord}
 use Rattle.names.specs.Names.{nameForm}
-use Rattle.pattern.specs.Expansions.{Variable}
-use Rattle.pattern.specs.Faults.{patternFault}
 use Rattle.rule_tail.specs.Tails.{Permissions, Target, takesTarget, carriedBy, permsAt, targetAt, commaAt}
-use Rattle.rule.specs.Rules.{Qualifiers, RuleRead, qualifiersAt, patternAt, ruleFrom}
-use Rattle.statement.specs.Steps.{Step, More, Close, ruleAt}
+use Rattle.rule.specs.Rules.{Qualifiers, RuleRead, qualifiersAt, patternFrom, patternAt, ruleEnd, ruleFrom, bodyAt, Step, More, Close, ruleAt}
 use Rattle.laws.proofs.Steps.{step, unless, inner}
 use Rattle.laws.specs.Written.{Written, wordIf, wordsBy, qualifierWords, Targets, targetsAt, writtenAt, SameTokens, says, permsBy, transitionBy, targetBy, meaning}
 
@@ -199,7 +196,7 @@ pub record Said (s : List ℕ) (at : ℕ) (r : RuleRead) : Type 0 where
 
 -- the pattern is the token that stands there
 pattern-token : (s : List ℕ) (q : Qualifiers) (t : Token) → patternAt s q ≡ Read t → wanted s (tokenAt noStop s (q .next)) ≡ Read t
-unfolding patternAt
+unfolding patternAt patternFrom
 pattern-token s q t e = go (wanted s (tokenAt noStop s (q .next))) (unless (firstWord (barred true) s (q .next)) 5 (standing s (q .next)) _ t e)
   where
     go : (x : Reading Token) → (x >>= λ t. refuseIf (q .some && isWord t (bytes "{")) 5 (t .start) >>= λ _. Read t) ≡ Read t → x ≡ Read t
@@ -207,11 +204,11 @@ pattern-token s q t e = go (wanted s (tokenAt noStop s (q .next))) (unless (firs
     go (Refused n p) f = let z : _≡_ {A = ℕ} 0 1 = cc in absurd (omega arith)
 
 -- every rule that is read says what its tokens say
-pub rule-said : (vs : List Variable) (s : List ℕ) (at : ℕ) (t : Token) (r : RuleRead) → patternAt s (qualifiersAt s at) ≡ Read t
-    → ruleFrom vs s (qualifiersAt s at) t ≡ Read r → Said s at r
-unfolding ruleFrom writtenAt meaning
-rule-said vs s at t r e f =
-    let a = step (judged (patternFault vs (t .content)) (t .start)) _ r f in
+pub rule-said : (fault : List ℕ → ℕ) (s : List ℕ) (at : ℕ) (t : Token) (r : RuleRead) → patternAt s (qualifiersAt s at) ≡ Read t
+    → ruleFrom fault s (qualifiersAt s at) t ≡ Read r → Said s at r
+unfolding ruleFrom ruleEnd writtenAt meaning
+rule-said fault s at t r e f =
+    let a = step (judged (fault (t .content)) (t .start)) _ r f in
     let b = step (permsAt (q .deny) s (t .next)) _ r (a .2) in
     let c = step (targetAt (b .0 .transition) s (b .0 .next)) _ r (b .2) in
     let d = step (commaAt s (c .0 .next)) _ r (c .2) in
@@ -234,9 +231,10 @@ rule-said vs s at t r e f =
           said = rw (z, words-audit s at, words-deny s at, words-owner s at, k .said, m .said);
         }
 
-pub step-said : (vs : List Variable) (s : List ℕ) (at : ℕ) (r : RuleRead) → ruleAt vs s at ≡ Read (More r) → Said s at r
-unfolding ruleAt
-step-said vs s at r e = go (standsAt (bytes "}") s at) e
+-- a rule is read where no } stands
+pub step-said : (fault : List ℕ → ℕ) (s : List ℕ) (at : ℕ) (r : RuleRead) → ruleAt fault s at ≡ Read (More r) → (standsAt (bytes "}") s at ≡ false) × Said s at r
+unfolding ruleAt bodyAt
+step-said fault s at r e = go (standsAt (bytes "}") s at) refl e
   where
     q : Qualifiers
     q = qualifiersAt s at
@@ -244,21 +242,22 @@ step-said vs s at r e = go (standsAt (bytes "}") s at) e
     more : (x : RuleRead) → Read (More x) ≡ Read (More r) → x ≡ r
     more x f = cc
 
-    go : (b : Bool) → (elim b as (λ _. Reading Step) [ true ↦ Read (Close (standing s at + 1)) | false ↦ patternAt s q >>= λ t. ruleFrom vs s q t >>= λ x. Read (More x) ]) ≡ Read (More r)
-        → Said s at r
-    go true f = let z : _≡_ {A = ℕ} 0 1 = cc in absurd (omega arith)
-    go false f =
+    go : (b : Bool) → standsAt (bytes "}") s at ≡ b
+        → (elim b as (λ _. Reading Step) [ true ↦ Read (Close (standing s at + 1)) | false ↦ patternAt s q >>= λ t. ruleFrom fault s q t >>= λ x. Read (More x) ]) ≡ Read (More r)
+        → (standsAt (bytes "}") s at ≡ false) × Said s at r
+    go true h f = let z : _≡_ {A = ℕ} 0 1 = cc in absurd (omega arith)
+    go false h f =
         let a = step (patternAt s q) _ (More r) f in
-        let b = step (ruleFrom vs s q (a .0)) _ (More r) (a .2) in
-        rule-said vs s at (a .0) r (a .1) (b .1 ∙ ap Read (more (b .0) (b .2)))
+        let b = step (ruleFrom fault s q (a .0)) _ (More r) (a .2) in
+        (h, rule-said fault s at (a .0) r (a .1) (b .1 ∙ ap Read (more (b .0) (b .2))))
 
 -- "Rules are the same when their tokens are, quotes, a written allow and the order or repeating of letters in PERMS aside": two rules of any
--- texts, read under any variables, are equal where their tokens are so the same
-pub same-rule : (vs us : List Variable) (s t : List ℕ) (a b : ℕ) (x y : RuleRead) (v w : Written) → ruleAt vs s a ≡ Read (More x) → ruleAt us t b ≡ Read (More y)
+-- texts, whatever is a fault of a pattern there, are equal where their tokens are so the same
+pub same-rule : (fault bad : List ℕ → ℕ) (s t : List ℕ) (a b : ℕ) (x y : RuleRead) (v w : Written) → ruleAt fault s a ≡ Read (More x) → ruleAt bad t b ≡ Read (More y)
     → writtenAt s a ≡ Read v → writtenAt t b ≡ Read w → SameTokens v w → x .rule ≡ y .rule
-same-rule vs us s t a b x y v w f g e d h =
-    let k = step-said vs s a x f in
-    let l = step-said us t b y g in
+same-rule fault bad s t a b x y v w f g e d h =
+    let k = step-said fault s a x f .1 in
+    let l = step-said bad t b y g .1 in
     let i : v ≡ k .written = inner (sym (k .stands) ∙ e) in
     let j : w ≡ l .written = inner (sym (l .stands) ∙ d) in
     sym (k .said) ∙ ap meaning (sym i) ∙ same-meaning v w h ∙ ap meaning j ∙ l .said
