@@ -41,8 +41,8 @@ pub enum Transition {
     ByMode(Mode),
 }
 
-// A word of at most eight bytes: the first ones, as many as counted.
-pub struct Word {
+// An answer as written: the first bytes, as many as counted.
+pub struct Written {
     pub bytes: [u8; 8],
     pub len: usize,
 }
@@ -61,19 +61,19 @@ impl Execute {
     }
 
     // An execute answer as document 01 writes it.
-    pub fn word(self) -> Word
+    pub fn word(self) -> Written
         ensures { λ r. ⌜ take (r .len) (r .bytes) ≡ executeWord self ⌝ }
     {
         match self {
-            Execute::NotAsked => Word {
+            Execute::NotAsked => Written {
                 bytes: *b"-       ",
                 len: 1,
             },
-            Execute::Denied => Word {
+            Execute::Denied => Written {
                 bytes: *b"denied  ",
                 len: 6,
             },
-            Execute::Conflict => Word {
+            Execute::Conflict => Written {
                 bytes: *b"conflict",
                 len: 8,
             },
@@ -207,7 +207,7 @@ fn mode_number(mode: Mode) -> u8
 }
 
 // A mode as the table writes it; nothing where no row has it.
-fn mode_word(mode: Mode) -> Word
+fn mode_word(mode: Mode) -> Written
     ensures { λ r. ⌜ take (r .len) (r .bytes) ≡ wordIn modes mode ⌝ }
 {
     let n = mode_number(mode) as usize;
@@ -218,9 +218,9 @@ fn mode_word(mode: Mode) -> Word
         bytes[1] = WORDS[at + 1];
         bytes[2] = WORDS[at + 2];
         if n < 10 {
-            return Word { bytes, len: 2 };
+            return Written { bytes, len: 2 };
         }
-        return Word { bytes, len: 3 };
+        return Written { bytes, len: 3 };
     }
-    Word { bytes, len: 0 }
+    Written { bytes, len: 0 }
 }
