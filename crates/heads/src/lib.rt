@@ -1,7 +1,6 @@
 // The heads of profiles: profile NAME { or /name {.
 use names::NAME_BYTES;
 use names::name_form;
-use rule::Got;
 use scan::begins_at;
 use scan::least;
 use text::BAD_FORM;
@@ -12,12 +11,16 @@ use text::Stop;
 use text::TOO_MUCH;
 use tokens::Read;
 use tokens::Token;
+use tokens::content;
+use tokens::is_word;
+use tokens::next_token;
+use tokens::stop_of;
 ghost use mathlib.Core.Path.{_≡_};
 ghost use Prim.Native.Nat.{min};
 ghost use lib.Dec.{leb};
 ghost use Rattle.scan.specs.Bytes.{same, some, span};
-ghost use Rattle.tokens.specs.Places.{tokenOf};
-ghost use Rattle.rule.specs.Places.{seenGot};
+ghost use Rattle.tokens.specs.Tokens.{wanted};
+ghost use Rattle.tokens.specs.Places.{seen, tokenOf};
 ghost use Rattle.heads.specs.Heads.{headAt, nameAt, openAt};
 ghost use Rattle.heads.specs.Places.{headFrom, nameFrom, namesOf, seenHead, seenOpen};
 
@@ -28,33 +31,33 @@ pub const USED_TWICE: u8 = 10;
 pub const PROFILES: usize = 32;
 
 // The name at a place, a token that ends at a blank or {; rooted says that it must begin with /.
-fn name_from(text: &[u8], rooted: bool, at: Place) -> Got
-    ensures { λ r. ⌜ seenGot (now (text .entry)) r ≡ nameFrom rooted (now (text .entry)) (at .0) ⌝ }
+fn name_from(text: &[u8], rooted: bool, at: Place) -> Read
+    ensures { λ r. ⌜ wanted (now (text .entry)) (seen (now (text .entry)) r) ≡ nameFrom rooted (now (text .entry)) (at .0) ⌝ }
 {
-    let r = tokens::next_token(text, at, b'{');
-    let Read::Found(t) = r else {
-        return Got::Refused(tokens::stop_of(text, r));
+    let token = next_token(text, at, b'{');
+    let Read::Found(t) = token else {
+        return token;
     };
-    let name = tokens::content(text, t);
+    let name = content(text, t);
     let start = t.start;
     if (!rooted | begins_at(name, 0, b'/')) & name_form(name, t.quoted) {
-        return Got::Token(t);
+        return token;
     }
-    Got::Refused(Stop {
+    Read::Stopped {
         number: BAD_FORM,
         place: start,
-    })
+    }
 }
 
 // The token of a profile's name; without the word profile it begins with /.
-fn name_at(text: &[u8], at: Place) -> Got
-    ensures { λ r. ⌜ seenGot (now (text .entry)) r ≡ nameAt (now (text .entry)) (at .0) ⌝ }
+fn name_at(text: &[u8], at: Place) -> Read
+    ensures { λ r. ⌜ wanted (now (text .entry)) (seen (now (text .entry)) r) ≡ nameAt (now (text .entry)) (at .0) ⌝ }
 {
-    let r = tokens::next_token(text, at, 0);
-    let Read::Found(t) = r else {
+    let token = next_token(text, at, 0);
+    let Read::Found(t) = token else {
         return name_from(text, true, at);
     };
-    if tokens::is_word(text, t, b"profile") {
+    if is_word(text, t, b"profile") {
         let next = t.next;
         return name_from(text, false, next);
     }
@@ -76,9 +79,9 @@ fn open_at(text: &[u8], at: Place) -> OpenRead
         let i = brace.0;
         return OpenRead::Good(Place(i + 1));
     }
-    let r = tokens::next_token(text, at, 0);
-    let Read::Found(t) = r else {
-        return OpenRead::Refused(tokens::stop_of(text, r));
+    let token = next_token(text, at, 0);
+    let Read::Found(t) = token else {
+        return OpenRead::Refused(stop_of(text, token));
     };
     let start = t.start;
     OpenRead::Refused(Stop {
@@ -116,7 +119,7 @@ fn head_from(text: &[u8], table: &[usize; 128], n: usize, t: Token) -> HeadRead
     let start = t.start;
     let from = t.from;
     let end = t.end;
-    let name = tokens::content(text, t);
+    let name = content(text, t);
     if (PROFILES <= n) | (NAME_BYTES < name.len()) {
         return HeadRead::Refused(Stop {
             number: TOO_MUCH,
@@ -149,8 +152,9 @@ pub fn head_at(text: &[u8], table: &[usize; 128], n: usize, at: Place) -> HeadRe
             place: blanks::standing_at(text, at),
         });
     }
-    match name_at(text, at) {
-        Got::Refused(stop) => HeadRead::Refused(stop),
-        Got::Token(t) => head_from(text, table, n, t),
-    }
+    let token = name_at(text, at);
+    let Read::Found(t) = token else {
+        return HeadRead::Refused(stop_of(text, token));
+    };
+    head_from(text, table, n, t)
 }

@@ -1,9 +1,9 @@
 -- What one step of the walk over a path says of a piece.
-use Prim.Native.Nat.{ℕ}
-use mathlib.Core.List.{List}
+use Prim.Native.Nat.{ℕ, suc}
+use mathlib.Core.List.{List, [], _∷_}
 use mathlib.Core.Bool.{Bool, true, false, _&&_, _||_}
 use lib.ListN.{length, take, drop, getD}
-use lib.Dec.{eqb, leb, ltb}
+use lib.Dec.{eqb, leb}
 use Rattle.class.specs.Class.{inClass}
 use Rattle.pattern.specs.Pieces.{Piece, Byte, One, Star, StarStar, Class}
 use Rattle.matcher.specs.Match.{accepts, noSlash, someUpTo}
@@ -24,9 +24,11 @@ takesOf Star b = noSlash b
 takesOf StarStar b = true
 takesOf (Class k) b = inClass k b
 
--- a byte stands at a place, of the kind that a piece takes
-abbrev pub takesAt : Piece → List ℕ → ℕ → Bool
-takesAt p s i = ltb i (length s) && takesOf p (getD s i 0)
+-- how many codes from the front are the bytes of a path: a byte is its own code
+unfoldable pub shared : (codes path : List ℕ) → ℕ
+shared [] s = 0
+shared (c ∷ cs) [] = 0
+shared (c ∷ cs) (b ∷ s) = elim (eqb c b) [ true ↦ suc (shared cs s) | false ↦ 0 ]
 
 -- the mark of a place after a piece, by those at the place before it and at it, and the new mark before it
 abbrev pub markOf : (many before here carried ok : Bool) → Bool

@@ -7,7 +7,7 @@ ghost use lib.ListN.{length, getD, take, drop};
 ghost use Rattle.scan.specs.Bytes.{run};
 ghost use Rattle.pattern.specs.Codes.{bracketed, decode, notClose};
 ghost use Rattle.matcher.specs.Match.{matches, someUpTo};
-ghost use Rattle.matcher.specs.Walk.{after, markOf, pathFits, repeatsOf, takesAt, takesOf};
+ghost use Rattle.matcher.specs.Walk.{after, markOf, pathFits, repeatsOf, shared, takesOf};
 
 // The codes of pieces: a literal is its byte; then ?, * and **; a class is the place in the text of its first byte above CLASS.
 const ONE: u32 = 256;
@@ -141,35 +141,36 @@ fn walk_marks(text: &[u8], codes: &[u32], path: &[u8]) -> bool
     marks[n]
 }
 
-// Whether a byte stands at a place of the path, of the kind that a piece takes.
-fn takes_at(text: &[u8], code: u32, path: &[u8], at: usize) -> bool
-    ensures { λ r. ⌜ r ≡ takesAt (decode (now (text .entry)) code) (now (path .entry)) at ⌝ }
+// How many pieces from the front are literals with the byte of the path at their place.
+fn shared_front(codes: &[u32], path: &[u8]) -> usize
+    ensures { λ r. ⌜ r ≡ shared (now (codes .entry)) (now (path .entry)) ⌝ }
 {
-    if at < path.len() {
-        return takes(text, code, path[at]);
+    let mut i = 0;
+    while i < codes.len() {
+        if path.len() <= i {
+            return i;
+        }
+        if codes[i] != path[i] as u32 {
+            return i;
+        }
+        i += 1;
     }
-    false
+    i
 }
 
-// Whether all the pieces match the path. In front of the first star each takes the byte at its own place, so marks are kept
-// from that star on.
+// Whether all the pieces match the path: those behind the literals that it begins with by marks.
 fn walk(text: &[u8], codes: &[u32], path: &[u8]) -> bool
     requires { ⌜ length (now path) ≤ 4095 ⌝ }
     ensures { λ r. ⌜ r ≡ matches (map (decode (now (text .entry))) (now (codes .entry))) (now (path .entry)) ⌝ }
 {
-    let mut i = 0;
-    while i < codes.len() {
-        let code = codes[i];
-        if repeats(code) {
-            return walk_marks(text, &codes[i..], &path[i..]);
-        }
-        if takes_at(text, code, path, i) {
-            i += 1;
-        } else {
+    let n = shared_front(codes, path);
+    if n < codes.len() {
+        if codes[n] < ONE {
             return false;
         }
+        return walk_marks(text, &codes[n..], &path[n..]);
     }
-    i == path.len()
+    n == path.len()
 }
 
 // Whether the first pieces, as many as counted, match a path of at most 4,095 bytes.

@@ -1,13 +1,13 @@
 -- The table of modes: the code's table is the definition's, and what a walk over it finds.
-use Prim.Native.Nat.{ℕ, zero, suc, _+_, _*_, _<_, _≤_}
+use Prim.Native.Nat.{ℕ, zero, suc, _+_, _-_, _*_, _<_, _≤_}
 use mathlib.Core.Path.{_≡_, refl, sym, ap, _∙_}
 use mathlib.Core.List.{List, [], _∷_, map}
 use mathlib.Core.Bool.{Bool, true, false, _&&_, Bool·beq, false≢true}
-use native.Mathlib.Nat.{not-suc-le-zero}
+use native.Mathlib.Nat.{not-suc-le-zero, sub-self}
 use native.Mathlib.Numerals.{add-one}
 use native.Mathlib.Omega.{arith}
 use lib.Dec.{eqb, ltb}
-use lib.ListN.{length, getD, drop, drop-of-length-le, List·getD-map}
+use lib.ListN.{length, getD, take, drop, drop-of-length-le, List·getD-map, List·getD-eq-default}
 use lib.Seq.{drop-cons}
 use borrow.Author.Tests.{eqb-true, eq-eqb, lt-ltb, le-ltb}
 use Rattle.scan.specs.Bytes.{bytes, same, span, if_then_else_}
@@ -95,6 +95,65 @@ module _ (rs : List Row) (n : ℕ) (m : Mode) (i : ℕ) where
   pub number-end : length rs ≤ i → numberIn (drop i rs) n m ≡ 255
   unfolding numberIn
   number-end h = rw (drop-of-length-le rs h)
+
+-- a mode's number is at least that of the first row, and its word is that of the row with its number
+pub number-least : (rs : List Row) (n : ℕ) (m : Mode) → length rs + n ≤ 255 → n ≤ numberIn rs n m
+unfolding numberIn
+number-least [] n m h = omega arith
+number-least (r ∷ rs) n m h = go (sameMode m (r .mode)) (number-least rs (suc n) m (omega arith))
+  where
+    go : (t : Bool) → suc n ≤ numberIn rs (suc n) m → n ≤ elim t as (λ _. ℕ) [ true ↦ n | false ↦ numberIn rs (suc n) m ]
+    go true k = omega arith
+    go false k = omega arith
+
+pub word-of-number : (rs : List Row) (n : ℕ) (m : Mode) → length rs + n ≤ 255 → wordIn rs m ≡ bytes (getD rs (numberIn rs n m - n) noRow .word)
+unfolding wordIn numberIn bytes
+word-of-number [] n m h = refl
+word-of-number (r ∷ rs) n m h = go (sameMode m (r .mode)) (number-least rs (suc n) m (omega arith)) (word-of-number rs (suc n) m (omega arith))
+  where
+    go : (t : Bool) → suc n ≤ numberIn rs (suc n) m → wordIn rs m ≡ bytes (getD rs (numberIn rs (suc n) m - suc n) noRow .word) →
+        elim t as (λ _. List ℕ) [ true ↦ bytes (r .word) | false ↦ wordIn rs m ] ≡ bytes (getD (r ∷ rs) ((elim t as (λ _. ℕ) [ true ↦ n | false ↦ numberIn rs (suc n) m ]) - n) noRow .word)
+    go true k e = rw (sub-self n)
+    go false k e =
+        let q : numberIn rs (suc n) m - n ≡ suc (numberIn rs (suc n) m - suc n) = omega arith in
+        rw q e
+
+-- three bytes of a list from a place on, and others behind them, taken as far as the first two or three
+abbrev three : (s rest : List ℕ) → ℕ → List ℕ
+three s rest a = getD s a 0 ∷ getD s (a + 1) 0 ∷ getD s (a + 2) 0 ∷ rest
+
+module _ (s rest : List ℕ) (a : ℕ) (h : a + 2 < length s) where
+  from-place : drop a s ≡ three s (drop (a + 3) s) a
+  from-place =
+      let h₁ : a + 1 + 1 ≡ a + 2 = omega arith in
+      let h₂ : a + 2 + 1 ≡ a + 3 = omega arith in
+      drop-cons s a 0 (omega arith) ∙ rw (← add-one a, drop-cons s (a + 1) 0 (omega arith), ← add-one (a + 1), h₁, drop-cons s (a + 2) 0 h, ← add-one (a + 2), h₂)
+
+  pub take-two : take 2 (three s rest a) ≡ span s a (a + 2)
+  take-two = let e : a + 2 - a ≡ 2 = omega arith in rw (e, from-place)
+
+  pub take-three : take 3 (three s rest a) ≡ span s a (a + 3)
+  take-three = let e : a + 3 - a ≡ 3 = omega arith in rw (e, from-place)
+
+-- the word of a mode by its number: of two bytes, of three, none
+module _ (m : Mode) {n : ℕ} (e : n ≡ numberIn modes 3 m) where
+  pub least-number : 3 ≤ n
+  least-number = omega (arith, number-least modes 3 m (omega arith))
+
+  word-row : wordIn modes m ≡ bytes (getD modes (n - 3) noRow .word)
+  word-row = word-of-number modes 3 m (omega arith) ∙ rw e
+
+  pub word-two : (rest : List ℕ) → n < 10 → take 2 (three words rest (3 * (n - 3))) ≡ wordIn modes m
+  unfolding bytes
+  word-two rest h = take-two words rest (3 * (n - 3)) (omega arith) ∙ word-of-two (n - 3) (omega arith) (omega arith) ∙ sym word-row
+
+  pub word-three : (rest : List ℕ) → 10 ≤ n → n < 18 → take 3 (three words rest (3 * (n - 3))) ≡ wordIn modes m
+  unfolding bytes
+  word-three rest l h = take-three words rest (3 * (n - 3)) (omega arith) ∙ word-of-three (n - 3) (omega arith) (omega arith) ∙ sym word-row
+
+  pub word-none : 18 ≤ n → [] ≡ wordIn modes m
+  unfolding bytes
+  word-none h = ap (λ (r : Row). bytes (r .word)) (sym (List·getD-eq-default modes noRow {n = n - 3} (omega arith))) ∙ sym word-row
 
 -- two modes are the same exactly when they are equal
 kindOf : ℕ → Kind

@@ -1,9 +1,9 @@
 // Execute modes, as one table, and execute answers.
 ghost use mathlib.Core.Path.{_≡_};
 ghost use Prim.Native.Nat.{_<_};
-ghost use lib.ListN.{getD};
+ghost use lib.ListN.{getD, take};
 ghost use Rattle.scan.specs.Bytes.{bytes, same};
-ghost use Rattle.modes.specs.Modes.{modes, noRow, modeIn, kindNumber, fallbackNumber, sameMode, numberIn, executeNumber};
+ghost use Rattle.modes.specs.Modes.{modes, noRow, modeIn, kindNumber, fallbackNumber, sameMode, numberIn, wordIn, executeNumber, executeWord};
 
 // Where an execute mode leads.
 pub enum Kind {
@@ -41,6 +41,12 @@ pub enum Transition {
     ByMode(Mode),
 }
 
+// An answer as written: the first bytes, as many as counted.
+pub struct Written {
+    pub bytes: [u8; 8],
+    pub len: usize,
+}
+
 impl Execute {
     // The number of an execute answer: 0 not asked, 1 denied, 2 conflict, from 3 on the modes in the table's order.
     pub fn number(self) -> u8
@@ -51,6 +57,27 @@ impl Execute {
             Execute::Denied => 1,
             Execute::Conflict => 2,
             Execute::ByMode(m) => mode_number(m),
+        }
+    }
+
+    // An execute answer as document 01 writes it.
+    pub fn word(self) -> Written
+        ensures { λ r. ⌜ take (r .len) (r .bytes) ≡ executeWord self ⌝ }
+    {
+        match self {
+            Execute::NotAsked => Written {
+                bytes: *b"-       ",
+                len: 1,
+            },
+            Execute::Denied => Written {
+                bytes: *b"denied  ",
+                len: 6,
+            },
+            Execute::Conflict => Written {
+                bytes: *b"conflict",
+                len: 8,
+            },
+            Execute::ByMode(m) => mode_word(m),
         }
     }
 }
@@ -177,4 +204,23 @@ fn mode_number(mode: Mode) -> u8
         i += 1;
     }
     255
+}
+
+// A mode as the table writes it; nothing where no row has it.
+fn mode_word(mode: Mode) -> Written
+    ensures { λ r. ⌜ take (r .len) (r .bytes) ≡ wordIn modes mode ⌝ }
+{
+    let n = mode_number(mode) as usize;
+    let mut bytes = [b' '; 8];
+    if n < 3 + ROWS {
+        let at = 3 * (n - 3);
+        bytes[0] = WORDS[at];
+        bytes[1] = WORDS[at + 1];
+        bytes[2] = WORDS[at + 2];
+        if n < 10 {
+            return Written { bytes, len: 2 };
+        }
+        return Written { bytes, len: 3 };
+    }
+    Written { bytes, len: 0 }
 }

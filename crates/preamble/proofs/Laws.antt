@@ -5,16 +5,15 @@ use mathlib.Core.Path.{_≡_, refl, sym, ap, ap₂, _∙_}
 use mathlib.Core.List.{List, [], _∷_, _++_, append-nil, append-assoc}
 use mathlib.Core.Bool.{Bool, true, false, not, _||_, _&&_, false≢true}
 use lib.ListN.{length, getD, take, drop, length-take, length-drop, length-append, drop-of-length-le}
-use lib.Seq.{drop-cons}
+use lib.Seq.{drop-cons, drop-drop}
 use lib.Dec.{eqb, leb}
-use borrow.Author.Tests.{ne-eqb, le-leb, lt-leb, leb-true, leb-false, eqb-false}
+use borrow.Author.Tests.{ne-eqb, le-leb, lt-leb, leb-true, leb-false, eqb-true, eqb-false}
 use native.Mathlib.Omega.{arith}
-use Rattle.scan.specs.Bytes.{begins, bytes, isEmpty, letter, run, same, some, span, if_then_else_}
-use Rattle.scan.proofs.Laws.{same-eq, same-self, run-le, every-from}
+use Rattle.scan.specs.Bytes.{begins, bytes, isEmpty, letter, run, same, some, span, startsWith, if_then_else_}
+use Rattle.scan.proofs.Laws.{same-eq, same-self, every-from, drop-take}
 use Rattle.text.specs.Reading.{Reading, Read, Refused, _>>=_, refuseIf, judged}
-use Rattle.tokens.specs.Tokens.{Token, Found, noStop, plain, tokenAt, wanted}
+use Rattle.tokens.specs.Tokens.{Token, Found, Stopped, quote, noStop, plain, plainToken, tokenAt, tokenFrom, wanted}
 use Rattle.blanks.specs.Blanks.{hash, nul, standing, standsAt}
-use Rattle.scan.proofs.Laws.{begins-end}
 use Rattle.tokens.proofs.Laws.{seen-found}
 use Rattle.text.specs.Places.{place, refusedBy}
 use Rattle.tokens.specs.Places.{seen, stopOf, tokenOf}
@@ -36,8 +35,8 @@ use Rattle.text.specs.declared.Place.{Place}
 use Rattle.variables.specs.Added.{Added, nameSet, room, valueSet}
 use Rattle.variables.proofs.Laws.{added-none, added-both, added-before, added-room, length-values, name-set, value-set}
 use Rattle.preamble.specs.Variables.{Assignment, variableForm, valuesOf, setBefore, extended, assigned, finalSets}
-use Rattle.preamble.specs.Preamble.{Values, Operator, Assigned, Preamble, assignmentFrom, inLineAt, lineEnds, nameFault, named, operatorFrom, preambleAt, valuesAt}
-use Rattle.preamble.specs.Places.{after, afterName, afterFault, afterOperator, afterValues, assignedOf, givenTo, nameByte, nextFault, Opening, preambleOf, seenOperator, seenPreamble, Upto, Valued, State}
+use Rattle.preamble.specs.Preamble.{Values, Operator, Assigned, Preamble, afterName, assignmentAt, inLineAt, lineEnds, nameFault, operatorFrom, preambleAt, assignmentThen, valuesAt, valueThen}
+use Rattle.preamble.specs.Places.{after, afterFault, afterOperator, afterValues, assignedOf, givenTo, nameByte, nextFault, Opening, preambleOf, seenOperator, seenPreamble, Upto, Valued, State}
 
 -- ---- names and lines
 
@@ -217,19 +216,19 @@ after-after xs ys (Refused n p) = refl
 module _ (vs : List Variable) (s : List ℕ) (at : ℕ) where
   values-end : (left : ℕ) → lineEnds (drop (inLineAt s at) s) ≡ true → valuesAt left vs s at ≡ Read (record { values = []; next = inLineAt s at })
   unfolding valuesAt
-  values-end zero e = rw (e, valuesAt)
-  values-end (suc left) e = rw (e, valuesAt)
+  values-end zero e = rw (e, valuesAt, valueThen)
+  values-end (suc left) e = rw (e, valuesAt, valueThen)
 
   module _ (e : lineEnds (drop (inLineAt s at) s) ≡ false) where
     values-stop : (left n p : ℕ) → wanted s (tokenAt noStop s (inLineAt s at)) ≡ Refused n p → valuesAt left vs s at ≡ Refused n p
     unfolding valuesAt
-    values-stop zero n p q = rw (e, q, valuesAt)
-    values-stop (suc left) n p q = rw (e, q, valuesAt)
+    values-stop zero n p q = rw (e, q, valuesAt, valueThen)
+    values-stop (suc left) n p q = rw (e, q, valuesAt, valueThen)
 
     module _ (t : Token) (q : tokenAt noStop s (inLineAt s at) ≡ Found t) where
       values-fault : (left : ℕ) → (nextFault left vs (t .content) ≡ 0 → ⊥) → valuesAt left vs s at ≡ Refused (nextFault left vs (t .content)) (t .start)
       unfolding valuesAt nextFault
-      values-fault zero f = rw (e, q, valuesAt) (go (isEmpty (t .content)))
+      values-fault zero f = rw (e, q, valuesAt, valueThen) (go (isEmpty (t .content)))
         where
           go : (x : Bool) → _≡_ {A = Reading Values} (refuseIf x 4 (t .start) >>= λ _. Refused 9 (t .start)) (Refused (if x then 4 else 9) (t .start))
           go true = refl
@@ -237,7 +236,7 @@ module _ (vs : List Variable) (s : List ℕ) (at : ℕ) where
       values-fault (suc left) f =
           let z : valueFault vs (t .content) ≡ 0 → ⊥ = f in
           let k : valueFault vs (t .content) ≡ suc (valueFault vs (t .content) - 1) = omega arith in
-          rw (e, q, k, valuesAt)
+          rw (e, q, k, valuesAt, valueThen)
 
       values-more : (left : ℕ) → nextFault left vs (t .content) ≡ 0 → valuesAt left vs s at ≡ after (t .content ∷ []) (valuesAt (left - 1) vs s (t .next))
       unfolding valuesAt nextFault after
@@ -246,7 +245,7 @@ module _ (vs : List Variable) (s : List ℕ) (at : ℕ) where
           go : (x : Bool) → (if_then_else_ {A = ℕ} x 4 9) ≡ 0 → ⊥
           go true h = omega arith
           go false h = omega arith
-      values-more (suc left) f = let k : suc left - 1 ≡ left = omega arith in rw (e, q, f, k, valuesAt) (go (valuesAt left vs s (t .next)))
+      values-more (suc left) f = let k : suc left - 1 ≡ left = omega arith in rw (e, q, f, k, valuesAt, valueThen) (go (valuesAt left vs s (t .next)))
         where
           go : (x : Reading Values) → (x >>= λ more. Read (record { values = t .content ∷ more .values; next = more .next })) ≡ after (t .content ∷ []) x
           go (Read v) = refl
@@ -403,49 +402,80 @@ module _ (vs : List Variable) (s n : List ℕ) (start sign : ℕ) (op : Operator
           go true h = absurd (false≢true h)
           go false h = refl
 
--- an operator, or its refusal, after a name
-module _ (vs : List Variable) (s n : List ℕ) (start end sign : ℕ) (o : OperatorRead) (e : sign ≡ inLineAt s (end + 1)) (q : seenOperator o ≡ operatorFrom s (end + 1) sign) where
-  name-operator : afterName vs s n start end ≡ (seenOperator o >>= afterOperator vs s n start sign)
-  unfolding afterName
-  name-operator = rw (← e, ← q)
+-- an operator after a name, or none
+module _ (vs : List Variable) (s n : List ℕ) (start end sign : ℕ) (o : OperatorRead) (e : sign ≡ inLineAt s (end + 1))
+    (q : (after : ℕ) → seenOperator s after o ≡ operatorFrom s after sign) where
+  name-operator : afterName vs s n start end ≡ (seenOperator s (end + 1) o >>= afterOperator vs s n start sign)
+  unfolding afterName afterOperator afterFault
+  name-operator = rw (← e, ← q (end + 1))
 
-  pub name-good : (adds : Bool) (next : Place) → o ≡ operator.Good adds next → afterName vs s n start end ≡ afterOperator vs s n start sign (record { adds = adds; next = next .0 })
+  pub name-found : (adds : Bool) (next : Place) → o ≡ operator.Found adds next → afterName vs s n start end ≡ afterOperator vs s n start sign (record { adds = adds; next = next .0 })
   unfolding seenOperator
-  name-good adds next h = name-operator ∙ rw h
+  name-found adds next h = name-operator ∙ rw h
 
-  pub name-refused : (st : Stop) → o ≡ operator.Refused st → assignedOf vs (afterName vs s n start end) ≡ refusedBy st
+  pub name-missing : o ≡ operator.Missing → (r : tokens.Read) → seen s r ≡ tokenAt noStop s (end + 1) → assignedOf vs (afterName vs s n start end) ≡ refusedBy (stopOf s r)
   unfolding seenOperator assignedOf
-  name-refused st h = rw (name-operator, h)
+  name-missing h r t = rw (name-operator, h, ← t, no-operator s r)
 
--- the name at a place is the bytes up to its end
-module _ (s : List ℕ) (start end : ℕ) (e : end ≡ start + run (plain (code "}")) (drop start s)) where
-  name-span : named (drop start s) ≡ span s start end
-  unfolding named
-  name-span = let k : end - start ≡ run (plain (code "}")) (drop start s) = omega arith in rw k
+-- the token of an assignment's name, which begins with @{ and ends at }
+at-brace : (p : ℕ) (l : List ℕ) → startsWith (bytes "@{") l ≡ true → tokenFrom (code "}") p l ≡ plainToken p (run (plain (code "}")) l) l
+unfolding tokenFrom same bytes
+at-brace p [] e = absurd (false≢true e)
+at-brace p (b ∷ l) e = go (eqb b 64) refl e
+  where
+    go : (x : Bool) → eqb b 64 ≡ x → (elim x as (λ _. Bool) [ true ↦ same (take 1 l) (123 ∷ []) | false ↦ false ]) ≡ true →
+        tokenFrom (code "}") p (b ∷ l) ≡ plainToken p (run (plain (code "}")) (b ∷ l)) (b ∷ l)
+    go true q h = rw (eqb-true b 64 q)
+    go false q h = absurd (false≢true h)
 
-  name-length : start + length (named (drop start s)) ≡ end
-  unfolding named
-  name-length = omega (arith, length-take (run (plain (code "}")) (drop start s)) (drop start s), run-le (plain (code "}")) (drop start s))
+module _ (vs : List Variable) (s : List ℕ) (at : ℕ) where
+  pub assignment-stop : (r : tokens.Read) → seen s r ≡ tokenAt (code "}") s at → wanted s (seen s r) ≡ refusedBy (stopOf s r) → assignedOf vs (assignmentAt vs s at) ≡ refusedBy (stopOf s r)
+  unfolding assignmentAt assignedOf
+  assignment-stop r q z = rw (← q, z)
 
-module _ (vs : List Variable) (s : List ℕ) (p end : ℕ) (e : end ≡ p + 2 + run (plain (code "}")) (drop (p + 2) s)) where
-  pub assignment-open : begins (code "}") (drop end s) ≡ false → assignedOf vs (assignmentFrom vs s p) ≡ Refused 4 p
-  unfolding assignmentFrom assignedOf
-  assignment-open b = rw (name-length s (p + 2) end e, b)
+  module _ (t : code.Token) (q : seen s (read.Found t) ≡ tokenAt (code "}") s at) where
+    pub assignment-open : begins (code "}") (drop (t .next .0) s) ≡ false → assignedOf vs (assignmentAt vs s at) ≡ Refused 4 (t .start .0)
+    unfolding assignmentAt assignedOf
+    assignment-open b = rw (← q, seen-found s t, b)
 
-  module _ (b : begins (code "}") (drop end s) ≡ true) where
-    pub assignment-bad : variableForm (span s (p + 2) end) ≡ false → assignedOf vs (assignmentFrom vs s p) ≡ Refused 6 (p + 2)
-    unfolding assignmentFrom assignedOf
-    assignment-bad f = rw (name-length s (p + 2) end e, b, name-span s (p + 2) end e, f)
+    module _ (e : standsAt (bytes "@{") s at ≡ true) where
+      abbrev p : ℕ
+      p = standing s at
 
-    pub assignment-good : variableForm (span s (p + 2) end) ≡ true → {x : Reading State} →
-        x ≡ assignedOf vs (afterName vs s (span s (p + 2) end) (p + 2) end) → x ≡ assignedOf vs (assignmentFrom vs s p)
-    unfolding assignmentFrom afterName afterOperator afterFault
-    assignment-good f g = g ∙ rw (name-length s (p + 2) end e, b, name-span s (p + 2) end e, f)
+      abbrev n : ℕ
+      n = run (plain (code "}")) (drop p s)
 
-pub assignment-past : (vs : List Variable) (s : List ℕ) (p : ℕ) → length s ≤ p → assignedOf vs (assignmentFrom vs s p) ≡ Refused 4 p
-assignment-past vs s p h =
-    let end = p + 2 + run (plain (code "}")) (drop (p + 2) s) in
-    assignment-open vs s p end refl (begins-end (code "}") s end (omega arith))
+      name-token : tokenOf s t ≡ record { start = p; content = take n (drop p s); quoted = false; next = p + n }
+      unfolding tokenAt
+      name-token = go (begins quote (drop n (drop p s))) (sym (seen-found s t) ∙ q ∙ at-brace p (drop p s) e)
+        where
+          go : (x : Bool) → Found (tokenOf s t) ≡ (if x then Stopped 4 p else Found (record { start = p; content = take n (drop p s); quoted = false; next = p + n })) →
+              tokenOf s t ≡ record { start = p; content = take n (drop p s); quoted = false; next = p + n }
+          go true h = let z : _≡_ {A = ℕ} 0 1 = cc in absurd (omega arith)
+          go false h = cc
+
+      pub name-start : t .start .0 < length s
+      unfolding bytes
+      name-start =
+          let k : t .start .0 ≡ p = ap (λ (u : Token). u .start) name-token in
+          omega (arith, ap length (same-eq (take 2 (drop p s)) (bytes "@{") e), length-take 2 (drop p s), length-drop p s)
+
+      name-span : drop 2 (span s (t .from .0) (t .end .0)) ≡ span s (t .start .0 + 2) (t .next .0)
+      name-span =
+          let k : t .start .0 ≡ p = ap (λ (u : Token). u .start) name-token in
+          let j : t .next .0 ≡ p + n = ap (λ (u : Token). u .next) name-token in
+          let w : p + n - (p + 2) ≡ n - 2 = omega arith in
+          ap (λ (u : Token). drop 2 (u .content)) name-token ∙ drop-take 2 n (drop p s) ∙ rw (k, j, w, drop-drop 2 p s)
+
+      module _ (b : begins (code "}") (drop (t .next .0) s) ≡ true) where
+        pub assignment-bad : variableForm (span s (t .start .0 + 2) (t .next .0)) ≡ false → assignedOf vs (assignmentAt vs s at) ≡ Refused 6 (t .start .0 + 2)
+        unfolding assignmentAt assignedOf
+        assignment-bad f = rw (← q, seen-found s t, b, name-span, f)
+
+        pub assignment-good : variableForm (span s (t .start .0 + 2) (t .next .0)) ≡ true → {x : Reading State} →
+            x ≡ assignedOf vs (afterName vs s (span s (t .start .0 + 2) (t .next .0)) (t .start .0 + 2) (t .next .0)) → x ≡ assignedOf vs (assignmentAt vs s at)
+        unfolding assignmentAt
+        assignment-good f g = g ∙ rw (← q, seen-found s t, b, name-span, f)
 
 -- ---- the preamble
 
@@ -461,12 +491,12 @@ module _ (s t : List ℕ) (r : PreambleRead) where
 module _ (vs : List Variable) (s : List ℕ) (at : ℕ) where
   pub preamble-none : (left : ℕ) → standsAt (bytes "@{") s at ≡ false → preambleAt left vs s at ≡ Read (record { assignments = []; variables = vs; next = at })
   unfolding preambleAt
-  preamble-none zero e = rw (e, preambleAt)
-  preamble-none (suc left) e = rw (e, preambleAt)
+  preamble-none zero e = rw (e, preambleAt, assignmentThen)
+  preamble-none (suc left) e = rw (e, preambleAt, assignmentThen)
 
   module _ (e : standsAt (bytes "@{") s at ≡ true) where
     abbrev here : Reading Assigned
-    here = assignmentFrom vs s (standing s at)
+    here = assignmentAt vs s at
 
     pub preamble-refused : (left n p : ℕ) → assignedOf vs here ≡ Refused n p → preambleOf (preambleAt left vs s at) ≡ Refused n p
     unfolding assignedOf preambleAt preambleOf
@@ -474,8 +504,8 @@ module _ (vs : List Variable) (s : List ℕ) (at : ℕ) where
       where
         go : (x : Reading Assigned) → here ≡ x → (l : ℕ) → assignedOf vs x ≡ Refused n p → preambleOf (preambleAt l vs s at) ≡ Refused n p
         go (Read a) q l h = let z : _≡_ {A = ℕ} 0 1 = cc in absurd (omega arith)
-        go (Refused m r) q zero h = rw (e, q, preambleAt) h
-        go (Refused m r) q (suc l) h = rw (e, q, preambleAt) h
+        go (Refused m r) q zero h = rw (e, q, preambleAt, assignmentThen) h
+        go (Refused m r) q (suc l) h = rw (e, q, preambleAt, assignmentThen) h
 
     module _ (st : State) where
       pub preamble-full : assignedOf vs here ≡ Read st → preambleOf (preambleAt 0 vs s at) ≡ Refused 9 (standing s at)
@@ -483,7 +513,7 @@ module _ (vs : List Variable) (s : List ℕ) (at : ℕ) where
       preamble-full = go here refl
         where
           go : (x : Reading Assigned) → here ≡ x → assignedOf vs x ≡ Read st → preambleOf (preambleAt 0 vs s at) ≡ Refused 9 (standing s at)
-          go (Read a) q h = rw (e, q, preambleAt)
+          go (Read a) q h = rw (e, q, preambleAt, assignmentThen)
           go (Refused m r) q h = let z : _≡_ {A = ℕ} 0 1 = cc in absurd (omega arith)
 
       pub preamble-more : (left : ℕ) → assignedOf vs here ≡ Read st → preambleOf (preambleAt (suc left) vs s at) ≡ preambleOf (preambleAt left (st .variables) s (st .next))
@@ -498,37 +528,34 @@ module _ (vs : List Variable) (s : List ℕ) (at : ℕ) where
           go : (x : Reading Assigned) → here ≡ x → assignedOf vs x ≡ Read st → preambleOf (preambleAt (suc left) vs s at) ≡ preambleOf (preambleAt left (st .variables) s (st .next))
           go (Read a) q h =
               let k : st ≡ record { variables = assigned vs (a .assignment); next = a .next } = cc in
-              rw (k, e, q, preambleAt) (last (a .assignment) (preambleAt left (assigned vs (a .assignment)) s (a .next)))
+              rw (k, e, q, preambleAt, assignmentThen) (last (a .assignment) (preambleAt left (assigned vs (a .assignment)) s (a .next)))
           go (Refused m r) q h = let z : _≡_ {A = ℕ} 0 1 = cc in absurd (omega arith)
 
 -- a turn of reading assignments, at whose end the table is t′
 module _ (s t : List ℕ) (n at left : ℕ) {whole : Reading State} (inv : preambleOf (preambleAt left (env s t n) s at) ≡ whole)
-    (e : standsAt (bytes "@{") s at ≡ true) {p : ℕ} (i : p ≡ standing s at) (t′ : List ℕ) (r : PreambleRead)
-    (q : seenPreamble s t′ r ≡ assignedOf (env s t n) (assignmentFrom (env s t n) s p)) where
-  turn : assignedOf (env s t n) (assignmentFrom (env s t n) s (standing s at)) ≡ seenPreamble s t′ r
-  turn = rw (← i) (sym q)
-
+    (e : standsAt (bytes "@{") s at ≡ true) (t′ : List ℕ) (r : PreambleRead)
+    (q : seenPreamble s t′ r ≡ assignedOf (env s t n) (assignmentAt (env s t n) s at)) where
   pub turn-refused : r .refused ≡ true → seenPreamble s t′ r ≡ whole
   turn-refused h =
       let f = seen-refused s t′ r h in
-      f ∙ sym (preamble-refused (env s t n) s at e left (r .stop .number) (r .stop .place .0) (turn ∙ f)) ∙ inv
+      f ∙ sym (preamble-refused (env s t n) s at e left (r .stop .number) (r .stop .place .0) (sym q ∙ f)) ∙ inv
 
   module _ (h : r .refused ≡ false) where
     abbrev state : State
     state = record { variables = env s t′ (r .count); next = r .next .0 }
 
-    pub turn-full : left ≡ 0 → Refused 9 p ≡ whole
-    turn-full z = rw (i, ← preamble-full (env s t n) s at e state (turn ∙ seen-read s t′ r h)) (rw z at inv)
+    pub turn-full : left ≡ 0 → {p : ℕ} → p ≡ standing s at → Refused 9 p ≡ whole
+    turn-full z i = rw (i, ← preamble-full (env s t n) s at e state (sym q ∙ seen-read s t′ r h)) (rw z at inv)
 
     pub turn-more : (left ≡ 0 → ⊥) → preambleOf (preambleAt (left - 1) (env s t′ (r .count)) s (r .next .0)) ≡ whole
     turn-more z =
         let k : left ≡ suc (left - 1) = omega arith in
-        sym (preamble-more (env s t n) s at e state (left - 1) (turn ∙ seen-read s t′ r h)) ∙ (rw k at inv)
+        sym (preamble-more (env s t n) s at e state (left - 1) (sym q ∙ seen-read s t′ r h)) ∙ (rw k at inv)
 
 -- the variables of a preamble are those that its assignments set
 pub preamble-sets : (left : ℕ) (vs : List Variable) (s : List ℕ) (at : ℕ) (p : Preamble) → preambleAt left vs s at ≡ Read p → p .variables ≡ finalSets vs (p .assignments)
 unfolding preambleAt finalSets
-preamble-sets zero vs s at p e = go (standsAt (bytes "@{") s at) (assignmentFrom vs s (standing s at)) e
+preamble-sets zero vs s at p e = go (standsAt (bytes "@{") s at) (assignmentAt vs s at) e
   where
     go : (b : Bool) (x : Reading Assigned) →
         (elim b as (λ _. Reading Preamble) [ true ↦ x >>= λ a. Refused 9 (standing s at) | false ↦ Read (record { assignments = []; variables = vs; next = at }) ]) ≡ Read p →
@@ -537,7 +564,7 @@ preamble-sets zero vs s at p e = go (standsAt (bytes "@{") s at) (assignmentFrom
     go true (Refused n q) h = let z : _≡_ {A = ℕ} 0 1 = cc in absurd (omega arith)
     go false x h = let k : p ≡ record { assignments = []; variables = vs; next = at } = cc in rw k
 preamble-sets (suc left) vs s at p e =
-    go (standsAt (bytes "@{") s at) (assignmentFrom vs s (standing s at)) (λ a m q. preamble-sets left (assigned vs (a .assignment)) s (a .next) m q) e
+    go (standsAt (bytes "@{") s at) (assignmentAt vs s at) (λ a m q. preamble-sets left (assigned vs (a .assignment)) s (a .next) m q) e
   where
     last : (a : Assigned) (y : Reading Preamble) → ((m : Preamble) → y ≡ Read m → m .variables ≡ finalSets (assigned vs (a .assignment)) (m .assignments)) →
         (y >>= λ more. Read (record { assignments = a .assignment ∷ more .assignments; variables = more .variables; next = more .next })) ≡ Read p →

@@ -9,12 +9,13 @@ use lib.Dec.{eqb}
 use Rattle.scan.specs.Bytes.{digit, isEmpty, letter, if_then_else_}
 use Rattle.text.specs.Reading.{Reading, Read, Refused, _>>=_, refuseIf, judged}
 use Rattle.text.specs.Places.{refusedBy}
+use Rattle.tokens.specs.Tokens.{noStop, tokenAt, wanted}
 use Rattle.pattern.specs.Expansions.{Variable}
 use Rattle.pattern.specs.Faults.{valueFault}
 use Rattle.pattern.specs.Table.{env, numberOf, variables, valuesOf as heldValues}
 use Rattle.variables.specs.Added.{Added, room}
 use Rattle.preamble.specs.Variables.{assigned, extended, valuesOf}
-use Rattle.preamble.specs.Preamble.{Values, Operator, Assigned, Preamble, inLineAt, nameFault, operatorFrom, usable, valuesAt}
+use Rattle.preamble.specs.Preamble.{Values, Operator, Assigned, Preamble, nameFault, usable, valuesAt}
 use Rattle.preamble.specs.declared.OperatorRead.{OperatorRead}
 use Rattle.preamble.specs.declared.OperatorRead.the-variants as operator
 use Rattle.preamble.specs.declared.ValuesRead.{ValuesRead}
@@ -25,10 +26,12 @@ use Rattle.preamble.specs.declared.PreambleRead.{PreambleRead}
 abbrev pub nameByte : ℕ → Bool
 nameByte b = letter b || digit b || eqb b (code "_")
 
--- an operator, or its refusal
-unfoldable pub seenOperator : OperatorRead → Reading Operator
-seenOperator (operator.Good a n) = Read (record { adds = a; next = n .0 })
-seenOperator (operator.Refused r) = refusedBy r
+-- an operator; where there is none, the refusal of the token that stands after the name
+unfoldable pub seenOperator : List ℕ → (after : ℕ) → OperatorRead → Reading Operator
+seenOperator s after (operator.Found a n) = Read (record { adds = a; next = n .0 })
+seenOperator s after operator.Missing = do
+  t ← wanted s (tokenAt noStop s after)
+  Refused 4 (t .start)
 
 -- ---- values
 
@@ -90,10 +93,6 @@ unfoldable pub afterOperator : List Variable → List ℕ → (n : List ℕ) →
 afterOperator vs s n start sign op = do
   _ ← judged (nameFault vs (op .adds) n) start
   afterFault vs s n sign op
-
--- an assignment after its name, which stands from start to before end
-unfoldable pub afterName : List Variable → List ℕ → (n : List ℕ) → (start end : ℕ) → Reading Assigned
-afterName vs s n start end = operatorFrom s (end + 1) (inLineAt s (end + 1)) >>= afterOperator vs s n start (inLineAt s (end + 1))
 
 -- ---- the preamble
 

@@ -7,8 +7,8 @@ use lib.ListN.{length, take, drop}
 use lib.Dec.{eqb, leb}
 use Rattle.scan.specs.Bytes.{begins, bytes, isEmpty, run, same, if_then_else_}
 use Rattle.text.specs.Reading.{Reading, Read, Refused, _>>=_, refuseIf, judged}
-use Rattle.blanks.specs.Blanks.{hash, inLine, nul, blank, standing, standsAt}
-use Rattle.tokens.specs.Tokens.{noStop, quote, tokenAt, wanted}
+use Rattle.blanks.specs.Blanks.{hash, inLine, nul, standing, standsAt}
+use Rattle.tokens.specs.Tokens.{Token, noStop, tokenAt, wanted}
 use Rattle.pattern.specs.Expansions.{Variable, isSet}
 use Rattle.pattern.specs.Faults.{valueFault}
 use Rattle.preamble.specs.Variables.{Assignment, variableForm, valuesOf, setBefore, assigned}
@@ -28,32 +28,26 @@ abbrev pub lineEnds : List ℕ → Bool
 lineEnds [] = true
 lineEnds (b ∷ s) = eqb b (code "\n") || eqb b hash || eqb b nul
 
--- the values from a place on, where so many more are allowed; they use the variables vs
+-- what is done with the value that stands next in the line, if one does
+abbrev pub valueThen : (Token → Reading Values) → List ℕ → ℕ → Reading Values
+valueThen f s at =
+    elim (lineEnds (drop (inLineAt s at) s)) [
+      | true ↦ Read (record { values = []; next = inLineAt s at })
+      | false ↦ wanted s (tokenAt noStop s (inLineAt s at)) >>= f
+    ]
+
+-- the values from a place on, where so many more are allowed; they use the variables vs. One too many is 9, unless it is empty
 unfoldable pub valuesAt : (left : ℕ) → List Variable → List ℕ → ℕ → Reading Values
-valuesAt zero vs s at =
-    elim (lineEnds (drop (inLineAt s at) s)) [
-      | true ↦ Read (record { values = []; next = inLineAt s at })
-      | false ↦ do
-        t ← wanted s (tokenAt noStop s (inLineAt s at))
-        _ ← refuseIf (isEmpty (t .content)) 4 (t .start)
-        Refused 9 (t .start)
-    ]
+valuesAt zero vs s at = valueThen (λ t. refuseIf (isEmpty (t .content)) 4 (t .start) >>= λ _. Refused 9 (t .start)) s at
 valuesAt (suc left) vs s at =
-    elim (lineEnds (drop (inLineAt s at) s)) [
-      | true ↦ Read (record { values = []; next = inLineAt s at })
-      | false ↦ do
-        t ← wanted s (tokenAt noStop s (inLineAt s at))
-        _ ← judged (valueFault vs (t .content)) (t .start)
-        more ← valuesAt left vs s (t .next)
-        Read (record { values = t .content ∷ more .values; next = more .next })
-    ]
+    valueThen
+    (λ t. do
+      _ ← judged (valueFault vs (t .content)) (t .start)
+      more ← valuesAt left vs s (t .next)
+      Read (record { values = t .content ∷ more .values; next = more .next }))
+    s at
 
 -- ---- names and operators
-
--- "Outside profiles @{ starts an assignment; its name runs to the next }, and a blank, #, NUL or the end before that is 4 at the @{":
--- the name, where s follows the @{
-unfoldable pub named : List ℕ → List ℕ
-named s = take (run (λ b. not (blank b || eqb b hash || eqb b nul || eqb b quote || eqb b (code "}"))) s) s
 
 pub record Operator : Type 0 where
   pub adds : Bool
@@ -88,21 +82,24 @@ pub record Assigned : Type 0 where
   pub assignment : Assignment
   pub next : ℕ
 
--- the assignment that starts with the @{ at p
-unfoldable pub assignmentFrom : List Variable → List ℕ → ℕ → Reading Assigned
-assignmentFrom vs s p =
-    let n : List ℕ = named (drop (p + 2) s) in
-    let name : ℕ = p + 2 in
-    let after : ℕ = name + length n + 1 in
-    let sign : ℕ = inLineAt s after in
+-- an assignment after its name n, which stands from start to before end
+unfoldable pub afterName : List Variable → List ℕ → (n : List ℕ) → (start end : ℕ) → Reading Assigned
+afterName vs s n start end =
+    let sign : ℕ = inLineAt s (end + 1) in
     do
-      _ ← refuseIf (not (begins (code "}") (drop (name + length n) s))) 4 p
-      _ ← refuseIf (not (variableForm n)) 6 name
-      op ← operatorFrom s after sign
-      _ ← judged (nameFault vs (op .adds) n) name
+      op ← operatorFrom s (end + 1) sign
+      _ ← judged (nameFault vs (op .adds) n) start
       vals ← valuesAt (16 - length (valuesOf vs n)) (usable vs (op .adds) n) s (op .next)
       _ ← refuseIf (eqb (length (vals .values)) 0) 4 sign
       Read (record { assignment = record { name = n; adds = op .adds; values = vals .values }; next = vals .next })
+
+-- the assignment at a place where @{ stands: "its name runs to the next }, and a blank, #, NUL or the end before that is 4 at the @{"
+unfoldable pub assignmentAt : List Variable → List ℕ → ℕ → Reading Assigned
+assignmentAt vs s at = do
+  t ← wanted s (tokenAt (code "}") s at)
+  _ ← refuseIf (not (begins (code "}") (drop (t .next) s))) 4 (t .start)
+  _ ← refuseIf (not (variableForm (drop 2 (t .content)))) 6 (t .start + 2)
+  afterName vs s (drop 2 (t .content)) (t .start + 2) (t .next)
 
 -- ---- the preamble
 
@@ -111,21 +108,21 @@ pub record Preamble : Type 0 where
   pub variables : List Variable
   pub next : ℕ
 
+-- what is done with the assignment that stands at a place, if one does: "Outside profiles @{ starts one"
+abbrev pub assignmentThen : (Assigned → Reading Preamble) → List Variable → List ℕ → ℕ → Reading Preamble
+assignmentThen f vs s at =
+    elim (standsAt (bytes "@{") s at) [
+      | true ↦ assignmentAt vs s at >>= f
+      | false ↦ Read (record { assignments = []; variables = vs; next = at })
+    ]
+
 -- the assignments from a place on, where so many more are allowed. Each gives a value or more, so 32 variables of 16 values
 -- leave room for 512, and no text is refused for one assignment too many.
 unfoldable pub preambleAt : (left : ℕ) → List Variable → List ℕ → ℕ → Reading Preamble
-preambleAt zero vs s at =
-    elim (standsAt (bytes "@{") s at) [
-      | true ↦ do
-        a ← assignmentFrom vs s (standing s at)
-        Refused 9 (standing s at)
-      | false ↦ Read (record { assignments = []; variables = vs; next = at })
-    ]
+preambleAt zero vs s at = assignmentThen (λ _. Refused 9 (standing s at)) vs s at
 preambleAt (suc left) vs s at =
-    elim (standsAt (bytes "@{") s at) [
-      | true ↦ do
-        a ← assignmentFrom vs s (standing s at)
-        more ← preambleAt left (assigned vs (a .assignment)) s (a .next)
-        Read (record { assignments = a .assignment ∷ more .assignments; variables = more .variables; next = more .next })
-      | false ↦ Read (record { assignments = []; variables = vs; next = at })
-    ]
+    assignmentThen
+    (λ a. do
+      more ← preambleAt left (assigned vs (a .assignment)) s (a .next)
+      Read (record { assignments = a .assignment ∷ more .assignments; variables = more .variables; next = more .next }))
+    vs s at

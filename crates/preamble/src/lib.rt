@@ -11,7 +11,6 @@ use text::bytes_from;
 use text::starts_with;
 use tokens::Read;
 use tokens::next_token;
-use tokens::plain_end;
 use tokens::stop_of;
 use variables::named;
 use variables::value_count;
@@ -22,24 +21,24 @@ ghost use mathlib.Core.List.{List, []};
 ghost use mathlib.Core.Bool.{true};
 ghost use Prim.Native.Nat.{ℕ, _+_, _<_};
 ghost use lib.ListN.{length, drop};
-ghost use Rattle.scan.specs.Bytes.{letter, run, span};
-ghost use Rattle.blanks.specs.Blanks.{inLine};
+ghost use Rattle.scan.specs.Bytes.{bytes, letter, run, span};
+ghost use Rattle.blanks.specs.Blanks.{inLine, standsAt};
 ghost use Rattle.text.specs.Reading.{Refused};
 ghost use Rattle.pattern.specs.Table.{env};
 ghost use Rattle.variables.specs.Added.{room};
 ghost use Rattle.preamble.specs.Variables.{variableForm};
-ghost use Rattle.preamble.specs.Preamble.{assignmentFrom, inLineAt, lineEnds, nameFault, operatorFrom, preambleAt};
-ghost use Rattle.preamble.specs.Places.{afterName, afterOperator, assignedOf, givenTo, nameByte, nextFault, Opening, preambleOf, seenOperator, seenPreamble, Valued};
+ghost use Rattle.preamble.specs.Preamble.{afterName, assignmentAt, inLineAt, lineEnds, nameFault, operatorFrom, preambleAt};
+ghost use Rattle.preamble.specs.Places.{afterOperator, assignedOf, givenTo, nameByte, nextFault, Opening, preambleOf, seenOperator, seenPreamble, Valued};
 
 // The numbers of refusals besides bad form: a bad name, a size.
 pub const BAD_NAME: u8 = 6;
 
 pub const TOO_MANY: u8 = 9;
 
-// = or +=, and where reading goes on.
+// = or +=, and where reading goes on, or neither.
 pub enum OperatorRead {
-    Good { adds: bool, next: Place },
-    Refused(Stop),
+    Found { adds: bool, next: Place },
+    Missing,
 }
 
 // The refusal, or whether a value was read and where reading goes on.
@@ -139,24 +138,23 @@ fn line_ends(text: &[u8], at: usize) -> bool
     true
 }
 
-// The operator at sign, which stands next in the line after a name.
-fn operator_at(text: &[u8], after: Place, sign: Place) -> OperatorRead
-    ensures { λ r. ⌜ seenOperator r ≡ operatorFrom (now (text .entry)) (after .0) (sign .0) ⌝ }
+// The operator at a place.
+fn operator_at(text: &[u8], sign: usize) -> OperatorRead
+    ensures { λ r. ⌜ ((after : ℕ) → seenOperator (now (text .entry)) after r ≡ operatorFrom (now (text .entry)) after sign) ⌝ }
 {
-    let p = sign.0;
-    if begins_at(text, p, b'=') {
-        return OperatorRead::Good {
+    if begins_at(text, sign, b'=') {
+        return OperatorRead::Found {
             adds: false,
-            next: Place(p + 1),
+            next: Place(sign + 1),
         };
     }
-    if starts_with(bytes_from(text, p), b"+=") {
-        return OperatorRead::Good {
+    if starts_with(bytes_from(text, sign), b"+=") {
+        return OperatorRead::Found {
             adds: true,
-            next: Place(p + 2),
+            next: Place(sign + 2),
         };
     }
-    OperatorRead::Refused(stop_of(text, next_token(text, after, 0)))
+    OperatorRead::Missing
 }
 
 // The fault of the name from start to before end under the first n variables, where = or += follows it.
@@ -330,35 +328,36 @@ fn after_name(
     ensures { λ r. ⌜ seenPreamble (now (text .entry)) (now (vars .exit)) r ≡ assignedOf (env (now (text .entry)) (now (vars .entry)) n) (afterName (env (now (text .entry)) (now (vars .entry)) n) (now (text .entry)) (span (now (text .entry)) start end) start end) ⌝ }
 {
     let sign = in_line_at(text, end + 1);
-    let o = operator_at(text, Place(end + 1), Place(sign));
-    match o {
-        OperatorRead::Good { adds, next } => {
-            after_operator(text, vars, n, start, end, sign, adds, next)
-        }
-        OperatorRead::Refused(s) => {
-            let place = s.place;
-            refused_at(s.number, place)
-        }
-    }
+    let operator = operator_at(text, sign);
+    let OperatorRead::Found { adds, next } = operator else {
+        let stop = stop_of(text, next_token(text, Place(end + 1), 0));
+        let place = stop.place;
+        return refused_at(stop.number, place);
+    };
+    after_operator(text, vars, n, start, end, sign, adds, next)
 }
 
-// The first n variables after the assignment that starts with the @{ at p.
-fn assignment_from(text: &[u8], vars: &mut [usize; 1120], n: usize, p: Place) -> PreambleRead
-    ensures { λ r. ⌜ seenPreamble (now (text .entry)) (now (vars .exit)) r ≡ assignedOf (env (now (text .entry)) (now (vars .entry)) n) (assignmentFrom (env (now (text .entry)) (now (vars .entry)) n) (now (text .entry)) (p .0)) ⌝ }
+// The first n variables after the assignment whose @{ stands next at a place.
+fn assignment_at(text: &[u8], vars: &mut [usize; 1120], n: usize, at: Place) -> PreambleRead
+    requires { ⌜ standsAt (bytes "@{") (now text) (at .0) ≡ true ⌝ }
+    ensures { λ r. ⌜ seenPreamble (now (text .entry)) (now (vars .exit)) r ≡ assignedOf (env (now (text .entry)) (now (vars .entry)) n) (assignmentAt (env (now (text .entry)) (now (vars .entry)) n) (now (text .entry)) (at .0)) ⌝ }
 {
-    let at = p.0;
-    if text.len() <= at {
-        return refused_at(BAD_FORM, p);
-    }
-    let start = at + 2;
-    let end = plain_end(text, start, b'}');
+    let token = next_token(text, at, b'}');
+    let Read::Found(t) = token else {
+        let stop = stop_of(text, token);
+        let place = stop.place;
+        return refused_at(stop.number, place);
+    };
+    let first = t.start;
+    let start = first.0 + 2;
+    let end = t.next.0;
     if begins_at(text, end, b'}') {
         if variable_form(span(text, start, end)) {
             return after_name(text, vars, n, start, end);
         }
         return refused_at(BAD_NAME, Place(start));
     }
-    refused_at(BAD_FORM, p)
+    refused_at(BAD_FORM, first)
 }
 
 // Sets the variables of the assignments in front of the profiles, and says where the first profile may stand.
@@ -370,13 +369,12 @@ pub fn preamble_at(text: &[u8], vars: &mut [usize; 1120]) -> PreambleRead
     let mut at = Place(0);
     let mut left: usize = 512;
     while stands_at(text, at, b"@{") {
-        let p = standing_at(text, at);
-        let a = assignment_from(text, vars, count, p);
+        let a = assignment_at(text, vars, count, at);
         if a.refused {
             return a;
         }
         if left == 0 {
-            return refused_at(TOO_MANY, p);
+            return refused_at(TOO_MANY, standing_at(text, at));
         }
         count = a.count;
         at = a.next;

@@ -16,37 +16,11 @@ pub fn put_number(n: u64) {
     io::print_decimal(STDOUT_FILENO, n);
 }
 
-// The execute answers as document 01 writes them, in the order of their numbers, and where each begins.
-const EXECUTES: [u8; 53] = *b"-deniedconflictuxUxpxPxcxCxixpixPixcixCixpuxPUxcuxCUx";
-
-const STARTS: [usize; 19] = [
-    0,
-    1,
-    7,
-    15,
-    17,
-    19,
-    21,
-    23,
-    25,
-    27,
-    29,
-    32,
-    35,
-    38,
-    41,
-    44,
-    47,
-    50,
-    53,
-];
-
-// Writes an execute answer by its number.
+// Writes an execute answer as document 01 writes it.
 pub fn put_execute(execute: Execute) {
-    let n = execute.number() as usize;
-    if n < 18 {
-        put(span(&EXECUTES, STARTS[n], STARTS[n + 1]));
-    }
+    let word = execute.word();
+    let bytes = word.bytes;
+    put(span(&bytes, 0, word.len));
 }
 
 // Writes the first bytes of a target, as many as counted, or these words where it has none, and answers whether it has any.

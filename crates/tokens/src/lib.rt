@@ -82,7 +82,7 @@ fn is_plain(b: u8, stop: u8) -> bool
 }
 
 // Where an unquoted token's bytes end.
-pub fn plain_end(text: &[u8], at: usize, stop: u8) -> usize
+fn plain_end(text: &[u8], at: usize, stop: u8) -> usize
     ensures { λ r. ⌜ r ≡ at + run (plain stop) (drop at (now (text .entry))) ⌝ }
 {
     let mut i = at;

@@ -14,8 +14,8 @@ use Rattle.heads.proofs.name_at.Tie as tie
 next-token-requires : tie.Need-next-token-requires
 next-token-requires c κs = search needs
 
-enum-known-r : tie.Need-enum-known-r
-enum-known-r c = search needs
+enum-known-token : tie.Need-enum-known-token
+enum-known-token c = search needs
 
 name-from-requires : tie.Need-name-from-requires
 name-from-requires c κs = search needs
@@ -35,21 +35,21 @@ name-from-requires-2 c κs = search needs
 
 returns-2 : tie.Need-returns-2
 unfolding seen bytes
-returns-2 c = c .name-from2 .ensures ∙ sym (name-word (now (c .before .before .before .before .before .before .before .before .before .before .args .text)) (c .before .before .before .before .before .before .before .before .before .before .args .at .0) _ (rw (← c .before .before .before .before .before .before .before .before .next-token .ensures, c .before .before .before .before .before .before .r .given .1, seen, ← c .before .before .before .is-word .ensures, c .before .before .if1 .taken)))
+returns-2 c = c .name-from2 .ensures ∙ sym (name-word (now (c .before .before .before .before .before .before .before .before .before .before .args .text)) (c .before .before .before .before .before .before .before .before .before .before .args .at .0) _ (rw (← c .before .before .before .before .before .before .before .before .next-token .ensures, c .before .before .before .before .before .before .token .given .1, seen, ← c .before .before .before .is-word .ensures, c .before .before .if1 .taken)))
 
 name-from-requires-3 : tie.Need-name-from-requires-3
 name-from-requires-3 c κs = search needs
 
 returns-3 : tie.Need-returns-3
 unfolding nameAt nameFrom seen bytes
-returns-3 c = c .name-from3 .ensures ∙ rw (← c .before .before .before .before .before .before .before .next-token .ensures, c .before .before .before .before .before .r .given .1, seen, ← c .before .before .is-word .ensures, c .before .if1 .left, nameAt)
+returns-3 c = c .name-from3 .ensures ∙ rw (← c .before .before .before .before .before .before .before .next-token .ensures, c .before .before .before .before .before .token .given .1, seen, ← c .before .before .is-word .ensures, c .before .if1 .left, nameAt)
 
 pub name-at-spec : {M : Type 1} → statement M
 name-at-spec =
     tie.close
     (tie.spec
     next-token-requires
-    enum-known-r
+    enum-known-token
     name-from-requires
     returns
     slice-aggregate-is-word

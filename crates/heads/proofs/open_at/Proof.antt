@@ -37,8 +37,8 @@ returns c = rw (c .standing-at .ensures, ← c .before .before .stands-at .ensur
 next-token-requires : tie.Need-next-token-requires
 next-token-requires c κs = search needs
 
-enum-known-r : tie.Need-enum-known-r
-enum-known-r c = search needs
+enum-known-token : tie.Need-enum-known-token
+enum-known-token c = search needs
 
 stop-of-requires : tie.Need-stop-of-requires
 stop-of-requires c κs = search needs
@@ -49,7 +49,7 @@ returns-2 c = rw (← c .before .before .before .before .stands-at .ensures, c .
 
 returns-3 : tie.Need-returns-3
 unfolding openAt seen seenOpen bytes
-returns-3 c = rw (← c .before .before .before .before .before .before .stands-at .ensures, c .before .before .before .before .before .if1 .left, ← c .before .before .before .before .next-token .ensures, c .before .before .r .given .1, seen, openAt)
+returns-3 c = rw (← c .before .before .before .before .before .before .stands-at .ensures, c .before .before .before .before .before .if1 .left, ← c .before .before .before .before .next-token .ensures, c .before .before .token .given .1, seen, openAt)
 
 pub open-at-spec : {M : Type 1} → statement M
 open-at-spec =
@@ -61,7 +61,7 @@ open-at-spec =
     add-t12
     returns
     next-token-requires
-    enum-known-r
+    enum-known-token
     stop-of-requires
     returns-2
     returns-3)

@@ -1,8 +1,9 @@
 use denote.Ref.{now}
-use mathlib.Core.Path.{sym, _∙_}
+use mathlib.Core.Path.{sym, ap, _∙_}
 use Rattle.scan.specs.Bytes.{span}
+use Rattle.text.specs.Places.{refusedBy}
 use Rattle.pattern.specs.Table.{env}
-use Rattle.preamble.proofs.Laws.{name-good, name-refused}
+use Rattle.preamble.proofs.Laws.{name-found, name-missing}
 use borrow.Author.Needs.{needs}
 use Rattle.preamble.proofs.after_name.Statement.{statement}
 use Rattle.preamble.proofs.after_name.Tie as tie
@@ -13,39 +14,44 @@ add-in-line-at c = search needs
 in-line-at-requires : tie.Need-in-line-at-requires
 in-line-at-requires c κs = search needs
 
-add-t12 : tie.Need-add-t12
-add-t12 c = search needs
-
 operator-at-requires : tie.Need-operator-at-requires
 operator-at-requires c κs = search needs
 
-enum-known-o : tie.Need-enum-known-o
-enum-known-o c = search needs
+enum-known-operator : tie.Need-enum-known-operator
+enum-known-operator c = search needs
 
-after-operator-requires : tie.Need-after-operator-requires
-after-operator-requires c κs = search needs
+enum-told : tie.Need-enum-told
+enum-told c = search needs
 
-enum-known-o-2 : tie.Need-enum-known-o-2
-enum-known-o-2 c = search needs
+add-t14 : tie.Need-add-t14
+add-t14 c = search needs
+
+next-token-requires : tie.Need-next-token-requires
+next-token-requires c κs = search needs
+
+stop-of-requires : tie.Need-stop-of-requires
+stop-of-requires c κs = search needs
 
 refused-at-requires : tie.Need-refused-at-requires
 refused-at-requires c κs = search needs
 
 returns : tie.Need-returns
 returns c =
-    let c-o = c .before .before .before .o in
-    let c-operator-at = c .before .before .before .before .before .operator-at in
-    let c-in-line-at = c .before .before .before .before .before .before .in-line-at in
-    let c-args = c .before .before .before .before .before .before .before .before .args in
-    rw (name-good (env (now (c-args .text)) (now (c-args .vars)) (c-args .n)) (now (c-args .text)) (span (now (c-args .text)) (c-args .start) (c-args .end)) (c-args .start) (c-args .end) (c-in-line-at .result) (c-operator-at .result) (c-in-line-at .ensures) (c-operator-at .ensures) (c-o .given .0 .0) (c-o .given .0 .1 .0) (c-o .given .1)) (c .after-operator .ensures)
+    let c-operator-at = c .before .before .before .before .before .before .operator-at in
+    let c-in-line-at = c .before .before .before .before .before .before .before .in-line-at in
+    let c-args = c .before .before .before .before .before .before .before .before .before .args in
+    c .refused-at .ensures _ _ ∙ ap refusedBy (c .before .before .stop-of .ensures) ∙ sym (name-missing (env (now (c-args .text)) (now (c-args .vars)) (c-args .n)) (now (c-args .text)) (span (now (c-args .text)) (c-args .start) (c-args .end)) (c-args .start) (c-args .end) (c-in-line-at .result) (c-operator-at .result) (c-in-line-at .ensures) (c-operator-at .ensures) (c .before .before .before .before .enum-told .given .1) (c .before .before .before .next-token .result) (c .before .before .before .next-token .ensures))
+
+after-operator-requires : tie.Need-after-operator-requires
+after-operator-requires c κs = search needs
 
 returns-2 : tie.Need-returns-2
 returns-2 c =
-    let c-o2 = c .before .before .before .o2 in
+    let c-operator = c .before .before .before .operator in
     let c-operator-at = c .before .before .before .before .before .operator-at in
     let c-in-line-at = c .before .before .before .before .before .before .in-line-at in
     let c-args = c .before .before .before .before .before .before .before .before .args in
-    c .refused-at .ensures _ _ ∙ sym (name-refused (env (now (c-args .text)) (now (c-args .vars)) (c-args .n)) (now (c-args .text)) (span (now (c-args .text)) (c-args .start) (c-args .end)) (c-args .start) (c-args .end) (c-in-line-at .result) (c-operator-at .result) (c-in-line-at .ensures) (c-operator-at .ensures) (c-o2 .given .0 .0) (c-o2 .given .1))
+    rw (name-found (env (now (c-args .text)) (now (c-args .vars)) (c-args .n)) (now (c-args .text)) (span (now (c-args .text)) (c-args .start) (c-args .end)) (c-args .start) (c-args .end) (c-in-line-at .result) (c-operator-at .result) (c-in-line-at .ensures) (c-operator-at .ensures) (c-operator .given .0 .0) (c-operator .given .0 .1 .0) (c-operator .given .1)) (c .after-operator .ensures)
 
 pub after-name-spec : {M : Type 1} → statement M
 after-name-spec =
@@ -53,11 +59,13 @@ after-name-spec =
     (tie.spec
     add-in-line-at
     in-line-at-requires
-    add-t12
     operator-at-requires
-    enum-known-o
-    after-operator-requires
-    enum-known-o-2
+    enum-known-operator
+    enum-told
+    add-t14
+    next-token-requires
+    stop-of-requires
     refused-at-requires
     returns
+    after-operator-requires
     returns-2)

@@ -11,10 +11,10 @@ use Rattle.preamble.proofs.preamble_at.Statement.{statement}
 use Rattle.preamble.proofs.preamble_at.Tie as tie
 
 abbrev Inv-loop : tie.InvT-loop
-Inv-loop text vars₀ count₀ at₀ left₀ t8 vars count at left = preambleOf (preambleAt left (env text vars count) text (at .0)) ≡ preambleOf (preambleAt 512 [] text 0)
+Inv-loop text vars₀ count₀ at₀ left₀ t7 vars count at left = preambleOf (preambleAt left (env text vars count) text (at .0)) ≡ preambleOf (preambleAt 512 [] text 0)
 
 abbrev μ-loop : tie.MeasureT-loop
-μ-loop text vars₀ count₀ at₀ left₀ t8 vars count at left = left
+μ-loop text vars₀ count₀ at₀ left₀ t7 vars count at left = left
 
 loop-holds : tie.Need-loop-holds Inv-loop μ-loop
 unfolding variables
@@ -26,21 +26,20 @@ slice-aggregate-stands-at c = search needs
 stands-at-requires : tie.Need-stands-at-requires Inv-loop μ-loop
 stands-at-requires c κs = search needs
 
-standing-at-requires : tie.Need-standing-at-requires Inv-loop μ-loop
-standing-at-requires c κs = search needs
-
-assignment-from-requires : tie.Need-assignment-from-requires Inv-loop μ-loop
-assignment-from-requires c κs = search needs
+assignment-at-requires : tie.Need-assignment-at-requires Inv-loop μ-loop
+unfolding bytes
+assignment-at-requires c κs = sym (c .before .before .stands-at .ensures) ∙ c .before .if1 .taken
 
 returns : tie.Need-returns Inv-loop μ-loop
 unfolding bytes
 returns c =
-    let c-standing-at = c .before .before .before .standing-at in
-    let c-if1 = c .before .before .before .before .if1 in
-    let c-stands-at = c .before .before .before .before .before .stands-at in
-    let c-loop = c .before .before .before .before .before .before .before .loop in
-    let c-args = c .before .before .before .before .before .before .before .before .before .args in
-    turn-refused (now (c-args .text)) (c-loop .vars) (c-loop .count) (c-loop .at .0) (c-loop .left) (c-loop .inv) (sym (c-stands-at .ensures) ∙ c-if1 .taken) (c-standing-at .ensures) _ (c .before .assignment-from .result) (c .before .assignment-from .ensures) (c .if2 .taken)
+    let c-stands-at = c .before .before .before .before .stands-at in
+    let c-loop = c .before .before .before .before .before .before .loop in
+    let c-args = c .before .before .before .before .before .before .before .before .args in
+    turn-refused (now (c-args .text)) (c-loop .vars) (c-loop .count) (c-loop .at .0) (c-loop .left) (c-loop .inv) (sym (c-stands-at .ensures) ∙ c .before .before .before .if1 .taken) _ (c .before .assignment-at .result) (c .before .assignment-at .ensures) (c .if2 .taken)
+
+standing-at-requires : tie.Need-standing-at-requires Inv-loop μ-loop
+standing-at-requires c κs = search needs
 
 refused-at-requires : tie.Need-refused-at-requires Inv-loop μ-loop
 refused-at-requires c κs = search needs
@@ -48,14 +47,11 @@ refused-at-requires c κs = search needs
 returns-2 : tie.Need-returns-2 Inv-loop μ-loop
 unfolding bytes
 returns-2 c =
-    let c-if2 = c .before .before .if2 in
-    let c-assignment-from = c .before .before .before .assignment-from in
-    let c-standing-at = c .before .before .before .before .before .standing-at in
-    let c-if1 = c .before .before .before .before .before .before .if1 in
+    let c-assignment-at = c .before .before .before .before .assignment-at in
     let c-stands-at = c .before .before .before .before .before .before .before .stands-at in
     let c-loop = c .before .before .before .before .before .before .before .before .before .loop in
     let c-args = c .before .before .before .before .before .before .before .before .before .before .before .args in
-    c .refused-at .ensures _ _ ∙ turn-full (now (c-args .text)) (c-loop .vars) (c-loop .count) (c-loop .at .0) (c-loop .left) (c-loop .inv) (sym (c-stands-at .ensures) ∙ c-if1 .taken) (c-standing-at .ensures) _ (c-assignment-from .result) (c-assignment-from .ensures) (c-if2 .left) (c .before .if3 .taken)
+    c .refused-at .ensures _ _ ∙ turn-full (now (c-args .text)) (c-loop .vars) (c-loop .count) (c-loop .at .0) (c-loop .left) (c-loop .inv) (sym (c-stands-at .ensures) ∙ c .before .before .before .before .before .before .if1 .taken) _ (c-assignment-at .result) (c-assignment-at .ensures) (c .before .before .before .if2 .left) (c .before .before .if3 .taken) (c .before .standing-at .ensures)
 
 sub-left : tie.Need-sub-left Inv-loop μ-loop
 sub-left c = search needs
@@ -66,14 +62,11 @@ loop-less c = search needs
 loop-again : tie.Need-loop-again Inv-loop μ-loop
 unfolding bytes
 loop-again c =
-    let c-if2 = c .before .before .if2 in
-    let c-assignment-from = c .before .before .before .assignment-from in
-    let c-standing-at = c .before .before .before .before .before .standing-at in
-    let c-if1 = c .before .before .before .before .before .before .if1 in
-    let c-stands-at = c .before .before .before .before .before .before .before .stands-at in
-    let c-loop = c .before .before .before .before .before .before .before .before .before .loop in
-    let c-args = c .before .before .before .before .before .before .before .before .before .before .before .args in
-    turn-more (now (c-args .text)) (c-loop .vars) (c-loop .count) (c-loop .at .0) (c-loop .left) (c-loop .inv) (sym (c-stands-at .ensures) ∙ c-if1 .taken) (c-standing-at .ensures) _ (c-assignment-from .result) (c-assignment-from .ensures) (c-if2 .left) (c .before .if3 .left)
+    let c-assignment-at = c .before .before .before .assignment-at in
+    let c-stands-at = c .before .before .before .before .before .before .stands-at in
+    let c-loop = c .before .before .before .before .before .before .before .before .loop in
+    let c-args = c .before .before .before .before .before .before .before .before .before .before .args in
+    turn-more (now (c-args .text)) (c-loop .vars) (c-loop .count) (c-loop .at .0) (c-loop .left) (c-loop .inv) (sym (c-stands-at .ensures) ∙ c .before .before .before .before .before .if1 .taken) _ (c-assignment-at .result) (c-assignment-at .ensures) (c .before .before .if2 .left) (c .before .if3 .left)
 
 returns-3 : tie.Need-returns-3 Inv-loop μ-loop
 unfolding bytes seenPreamble preambleOf
@@ -90,9 +83,9 @@ preamble-at-spec =
     loop-holds
     slice-aggregate-stands-at
     stands-at-requires
-    standing-at-requires
-    assignment-from-requires
+    assignment-at-requires
     returns
+    standing-at-requires
     refused-at-requires
     returns-2
     sub-left

@@ -1,0 +1,68 @@
+use borrow.Author.Needs.{needs}
+use denote.Ref.{now}
+use mathlib.Core.Path.{_≡_, refl}
+use Prim.Native.Nat.{_+_, _-_, _≤_}
+use native.Mathlib.Nat.{zero-add}
+use native.Mathlib.Omega.{arith}
+use lib.ListN.{length, drop}
+use Rattle.matcher.specs.Walk.{shared}
+use Rattle.matcher.proofs.Front.{shared-more, shared-stop, shared-short, shared-end}
+use Rattle.matcher.proofs.shared_front.Statement.{statement}
+use Rattle.matcher.proofs.shared_front.Tie as tie
+
+abbrev Inv-loop : tie.InvT-loop
+Inv-loop codes path i₀ i = (i ≤ length codes) × (i + shared (drop i codes) (drop i path) ≡ shared codes path)
+
+abbrev μ-loop : tie.MeasureT-loop
+μ-loop codes path i₀ i = length codes - i
+
+loop-holds : tie.Need-loop-holds Inv-loop μ-loop
+loop-holds c = (omega arith, zero-add _)
+
+returns : tie.Need-returns Inv-loop μ-loop
+returns c = omega (arith, c .before .before .loop .inv .1, shared-short (now (c .before .before .before .args .codes)) (now (c .before .before .before .args .path)) (c .before .before .loop .i) (c .if1 .taken))
+
+mul-if2 : tie.Need-mul-if2 Inv-loop μ-loop
+mul-if2 c = search needs
+
+shared-slice-read-if2 : tie.Need-shared-slice-read-if2 Inv-loop μ-loop
+shared-slice-read-if2 c = search needs
+
+shared-slice-read-if2-2 : tie.Need-shared-slice-read-if2-2 Inv-loop μ-loop
+shared-slice-read-if2-2 c = search needs
+
+cast-if2 : tie.Need-cast-if2 Inv-loop μ-loop
+cast-if2 c = omega (arith, c .shared-slice-known2 .given (c .before .before .before .before .loop .i))
+
+returns-2 : tie.Need-returns-2 Inv-loop μ-loop
+returns-2 c = omega (arith, c .before .before .before .before .before .loop .inv .1, shared-stop (now (c .before .before .before .before .before .before .args .codes)) (now (c .before .before .before .before .before .before .args .path)) (c .before .before .before .before .before .loop .i) (omega arith) (omega arith) (c .if2 .taken))
+
+add-i : tie.Need-add-i Inv-loop μ-loop
+add-i c = search needs
+
+loop-less : tie.Need-loop-less Inv-loop μ-loop
+loop-less c = search needs
+
+loop-again : tie.Need-loop-again Inv-loop μ-loop
+loop-again c = (omega arith, omega (arith, c .before .before .before .before .before .loop .inv .1, shared-more (now (c .before .before .before .before .before .before .args .codes)) (now (c .before .before .before .before .before .before .args .path)) (c .before .before .before .before .before .loop .i) (omega arith) (omega arith) (c .if2 .left)))
+
+returns-3 : tie.Need-returns-3 Inv-loop μ-loop
+returns-3 c = omega (arith, c .before .loop .inv .1, shared-end (now (c .before .before .args .codes)) (now (c .before .before .args .path)) (c .before .loop .i) (omega arith))
+
+pub shared-front-spec : {M : Type 1} → statement M
+shared-front-spec =
+    tie.close
+    (tie.spec
+    Inv-loop
+    μ-loop
+    loop-holds
+    returns
+    mul-if2
+    shared-slice-read-if2
+    shared-slice-read-if2-2
+    cast-if2
+    returns-2
+    add-i
+    loop-less
+    loop-again
+    returns-3)
