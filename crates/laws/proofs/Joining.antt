@@ -1,10 +1,10 @@
 -- Demand 3, joining: the findings of one list followed by another are both lists' findings joined, and joining is commutative,
--- associative and idempotent, with the empty list's findings neutral.
+-- associative and idempotent, with the empty list's findings neutral; of equal findings it gives equal ones.
 use Prim.Native.Nat.{ℕ}
-use mathlib.Core.Path.{_≡_, sym, _∙_}
-use mathlib.Core.List.{List, [], _++_, append-assoc}
-use mathlib.Core.Bool.{_||_, or-comm, or-self}
-use lib.Bits.{or-zero-l, or-comm as bitOr-comm, or-self as bitOr-self}
+use mathlib.Core.Path.{_≡_, sym, ap₂, _∙_}
+use mathlib.Core.List.{List, [], _++_, append-nil, append-assoc}
+use mathlib.Core.Bool.{Bool, _||_, or-comm, or-self}
+use lib.Bits.{bitOr, or-zero-l, or-zero-r, or-comm as bitOr-comm, or-self as bitOr-self}
 use Rattle.scan.specs.Bytes.{some}
 use Rattle.scan.proofs.Laws.{some-append}
 use Rattle.perms.proofs.Laws.{or-associative}
@@ -21,6 +21,21 @@ joined = findings-append
 
 members-append : (m : Move) (xs ys : List Move) → some (sameMove m) (xs ++ ys) ≡ (some (sameMove m) xs || some (sameMove m) ys)
 members-append m xs ys = some-append (sameMove m) xs ys
+
+-- equal findings joined with equal ones are equal
+pub join-equal : (f g h k : Findings) → Equal f g → Equal h k → Equal (join f h) (join g k)
+unfolding join
+join-equal f g h k e d = record {
+  allowed = ap₂ bitOr (e .allowed) (d .allowed);
+  allowedAudit = ap₂ bitOr (e .allowedAudit) (d .allowedAudit);
+  denied = ap₂ bitOr (e .denied) (d .denied);
+  deniedAudit = ap₂ bitOr (e .deniedAudit) (d .deniedAudit);
+  exact = both (f .exact) (g .exact) (h .exact) (k .exact) (e .exact) (d .exact);
+  others = both (f .others) (g .others) (h .others) (k .others) (e .others) (d .others);
+}
+  where
+    both : (xs ys us vs : List Move) → SameMembers xs ys → SameMembers us vs → SameMembers (xs ++ us) (ys ++ vs)
+    both xs ys us vs s t m = members-append m xs us ∙ ap₂ (λ (a b : Bool). a || b) (s m) (t m) ∙ sym (members-append m ys vs)
 
 pub join-comm : (f g : Findings) → Equal (join f g) (join g f)
 unfolding join
@@ -70,4 +85,15 @@ join-none vs q f = λ i. record {
   deniedAudit = or-zero-l (f .deniedAudit) i;
   exact = f .exact;
   others = f .others;
+}
+
+pub join-none-r : (vs : List Variable) (q : Access) (f : Findings) → join f (findings vs q []) ≡ f
+unfolding join findings those bits moves some
+join-none-r vs q f = λ i. record {
+  allowed = or-zero-r (f .allowed) i;
+  allowedAudit = or-zero-r (f .allowedAudit) i;
+  denied = or-zero-r (f .denied) i;
+  deniedAudit = or-zero-r (f .deniedAudit) i;
+  exact = append-nil (f .exact) i;
+  others = append-nil (f .others) i;
 }

@@ -1,14 +1,13 @@
 -- Demand 3 on texts: rules in another order, deny rules added, allow rules added, other profiles.
 use Prim.Native.Nat.{ℕ, _<_}
 use mathlib.Core.Path.{_≡_, refl, sym, ap, ap₂, _∙_, subst}
-use mathlib.Core.List.{List, [], _∷_}
+use mathlib.Core.List.{List, [], _∷_, List·Memᴰ}
 use mathlib.Core.Bool.{Bool, true, false, not, _||_, _&&_, false≢true, and-false}
 use mathlib.Core.Logic.{⊎-elim, _⊎_, inl, inr}
 use native.Mathlib.Omega.{arith}
-use lib.ListN.{length}
 use lib.Dec.{eqb}
-use borrow.Author.Tests.{le-ltb, ne-eqb}
-use Rattle.scan.specs.Bytes.{same, some, every, if_then_else_}
+use borrow.Author.Tests.{ne-eqb}
+use Rattle.scan.specs.Bytes.{some, every, if_then_else_}
 use Rattle.perms.specs.Sets.{has, setOf}
 use Rattle.perms.proofs.Laws.{and-left, and-right, has-set}
 use Rattle.modes.specs.declared.Mode.{Mode}
@@ -16,16 +15,16 @@ use Rattle.modes.specs.declared.Execute.{Execute}
 use Rattle.modes.specs.declared.Execute.the-variants.{NotAsked, Denied, Conflict, ByMode}
 use Rattle.pattern.specs.Expansions.{Variable}
 use Rattle.rule.specs.Rules.{Rule}
-use Rattle.preamble.specs.Variables.{finalSets}
-use Rattle.profile.specs.Profiles.{Profile, File, fileOf}
+use Rattle.profile.specs.Profiles.{Profile, File}
 use Rattle.findings.specs.Findings.{Access, Move, Findings, applies, allows, audited, denies, exactly, otherwise, those, bits, moveBy, moves, findings, sameMove, SameMembers, Equal, Choice, None, Single, Several, choice}
 use Rattle.answer.specs.Answers.{preferred, chosen, isMode, namedBy, targetOf, moveOf, executeOf, grants, answerFrom, refusal}
-use Rattle.request.specs.Requests.{badPath, badAsked}
-use Rattle.decide.specs.Decide.{answerIn, answerBy, answerOf}
+use Rattle.decide.specs.Decide.{answerOf}
 use Rattle.answer.specs.declared.Answer.{Answer}
-use Rattle.laws.specs.Orders.{Accepted, SameRules, Added, Paired, none, both, SameButRules, Holds, here, later, NoMore, NoLess}
+use Rattle.laws.specs.Asked.{rulesOf}
+use Rattle.laws.specs.Orders.{Accepted, SameRules, Added, SameButRules, NoMore, NoLess}
 use Rattle.matcher.proofs.Laws.{or-cases, or-r}
 use Rattle.laws.proofs.Fixed.{answer-fixed, move-fixed}
+use Rattle.laws.proofs.Texts.{held, one-name, texts-by}
 use Rattle.laws.proofs.Parts.{some-same, some-kept, some-grows, bitTest, moveTest, bits-by, has-bit, moves-by}
 
 -- ---- the same rules
@@ -46,62 +45,8 @@ module _ (vs : List Variable) (q : Access) where
       let move : (p : Rule → Bool) → SameMembers (moves p (those (applies vs q) xs)) (moves p (those (applies vs q) ys)) = λ p. moves-same p xs ys (λ m. some-same (moveTest vs q p m) xs ys s) in
       record { allowed = bit allows; allowedAudit = bit (audited allows); denied = bit denies; deniedAudit = bit (audited denies); exact = move (exactly vs q); others = move (otherwise vs q) }
 
--- ---- answers by profile and by text
-
--- what holds of the answers from two rule lists related by R, and of a refusal with itself, holds of the answers of paired profiles
-module _ (R : List Rule → List Rule → Type 0) (S : Answer → Answer → Type 0) (vs : List Variable) (q : Access) (asked : ℕ) (self : (n line : ℕ) → S (refusal n line) (refusal n line))
-    (step : (xs ys : List Rule) → R xs ys → S (answerFrom (findings vs q xs) asked) (answerFrom (findings vs q ys) asked)) where
-  profiles-by : (n : List ℕ) (ps qs : List Profile) → Paired R ps qs → S (answerIn vs q asked n ps) (answerIn vs q asked n qs)
-  unfolding answerIn
-  profiles-by n ps qs none = self 11 0
-  profiles-by n ps qs (both {ps = us} {qs = ws} p r e h more) = go (same (p .name) n) (same (r .name) n) (ap (λ (m : List ℕ). same m n) e) (profiles-by n us ws more)
-    where
-      go : (a b : Bool) → a ≡ b → S (answerIn vs q asked n us) (answerIn vs q asked n ws)
-          → S (elim a as (λ _. Answer) [ true ↦ answerFrom (findings vs q (p .rules)) asked | false ↦ answerIn vs q asked n us ])
-          (elim b as (λ _. Answer) [ true ↦ answerFrom (findings vs q (r .rules)) asked | false ↦ answerIn vs q asked n ws ])
-      go true true e k = step (p .rules) (r .rules) h
-      go true false e k = absurd (false≢true (sym e))
-      go false true e k = absurd (false≢true e)
-      go false false e k = k
-
-pub texts-by : (R : List Rule → List Rule → Type 0) (S : Answer → Answer → Type 0) (s t name path : List ℕ) (asked : ℕ) (owner : Bool) (f g : File)
-    → ((n line : ℕ) → S (refusal n line) (refusal n line))
-    → ((vs : List Variable) (xs ys : List Rule) → R xs ys → S (answerFrom (findings vs (record { path = path; owner = owner }) xs) asked) (answerFrom (findings vs (record { path = path; owner = owner }) ys) asked))
-    → Accepted s f → Accepted t g → SameButRules R f g
-    → S (answerOf s name path asked owner) (answerOf t name path asked owner)
-unfolding answerOf
-texts-by R S s t name path asked owner f g self step a b same =
-    rw (le-ltb 65535 (length s) (a .short), le-ltb 65535 (length t) (b .short), answerOf) (go (badPath path) (badAsked asked))
-  where
-    q : Access
-    q = record { path = path; owner = owner }
-
-    vs : List Variable
-    vs = finalSets [] (g .preamble)
-
-    files : S (answerIn (finalSets [] (f .preamble)) q asked name (f .profiles)) (answerIn vs q asked name (g .profiles))
-    files = subst (λ (l : List Variable). S (answerIn l q asked name (f .profiles)) (answerIn vs q asked name (g .profiles))) (sym (ap (finalSets []) (same .preamble)))
-        (profiles-by R S vs q asked self (step vs) name (f .profiles) (g .profiles) (same .profiles))
-
-    read : S (answerBy s (fileOf s) name q asked) (answerBy t (fileOf t) name q asked)
-    read = rw (a .file, b .file) files
-
-    go : (x y : Bool) → S
-        (elim x as (λ _. Answer) [ true ↦ refusal 2 0 | false ↦ elim y as (λ _. Answer) [ true ↦ refusal 3 0 | false ↦ answerBy s (fileOf s) name q asked ] ])
-        (elim x as (λ _. Answer) [ true ↦ refusal 2 0 | false ↦ elim y as (λ _. Answer) [ true ↦ refusal 3 0 | false ↦ answerBy t (fileOf t) name q asked ] ])
-    go true y = self 2 0
-    go false true = self 3 0
-    go false false = read
-
--- "If each profile holds the same rules, in whatever order and each however often, every request gets the same answer."
-pub any-order : (s t name path : List ℕ) (asked : ℕ) (owner : Bool) (f g : File) → Accepted s f → Accepted t g → SameButRules SameRules f g
-    → answerOf s name path asked owner ≡ answerOf t name path asked owner
-any-order s t name path asked owner f g a b same =
-    texts-by SameRules (λ x y. x ≡ y) s t name path asked owner f g (λ n line. refl)
-    (λ vs xs ys h. answer-fixed (findings vs q xs) (findings vs q ys) asked (findings-same vs q xs ys h)) a b same
-  where
-    q : Access
-    q = record { path = path; owner = owner }
+  pub rules-same : (asked : ℕ) (xs ys : List Rule) → SameRules xs ys → answerFrom (findings vs q xs) asked ≡ answerFrom (findings vs q ys) asked
+  rules-same asked xs ys h = answer-fixed (findings vs q xs) (findings vs q ys) asked (findings-same xs ys h)
 
 -- ---- what a granted bit says
 
@@ -348,7 +293,14 @@ module _ (vs : List Variable) (q : Access) (asked : ℕ) (xs ys : List Rule) (a 
             (λ h. inr (execute-is (findings vs q ys) asked ∙ h)) (allow-execute w);
       }
 
--- ---- refusals, and the sentences on texts
+-- ---- the sentences on texts
+
+-- "If each profile holds the same rules, in whatever order and each however often, every request gets the same answer."
+pub any-order : (s t name path : List ℕ) (asked : ℕ) (owner : Bool) (f g : File) → Accepted s f → Accepted t g → SameButRules SameRules f g
+    → answerOf s name path asked owner ≡ answerOf t name path asked owner
+any-order s t name path asked owner f g a b same =
+    texts-by SameRules (λ x y. x ≡ y) s t name path asked owner f g (λ n line. refl)
+    (λ vs xs ys h. rules-same vs (record { path = path; owner = owner }) asked xs ys h) a b same
 
 refusal-no-more : (n line : ℕ) → NoMore (refusal n line) (refusal n line)
 refusal-no-more n line = record { bits = λ k h e. e; transition = λ m e. (e, refl) }
@@ -373,47 +325,14 @@ allow-added s t name path asked owner f g a b same =
 
 -- ---- other profiles
 
-held : (vs : List Variable) (q : Access) (asked : ℕ) (n : List ℕ) (rs : List Rule) (ps : List Profile) → Holds n rs ps → answerIn vs q asked n ps ≡ answerFrom (findings vs q rs) asked
-unfolding answerIn
-held vs q asked n rs ps (here p e r) = rw (e, answerIn) (ap (λ (l : List Rule). answerFrom (findings vs q l) asked) r)
-held vs q asked n rs ps (later {ps = us} p e h) = rw (e, answerIn) (held vs q asked n rs us h)
-
--- refusals 2 and 3 come first
-abbrev checked : (path asked : Bool) → Answer → Answer
-checked true y a = refusal 2 0
-checked false true a = refusal 3 0
-checked false false a = a
-
--- an accepted text that holds the asked profile answers by its rules
-answered : (s name path : List ℕ) (asked : ℕ) (owner : Bool) (f : File) (rs : List Rule) → Accepted s f → Holds name rs (f .profiles)
-    → answerOf s name path asked owner
-    ≡ checked (badPath path) (badAsked asked) (answerFrom (findings (finalSets [] (f .preamble)) (record { path = path; owner = owner }) rs) asked)
-unfolding answerOf
-answered s name path asked owner f rs a h = rw (le-ltb 65535 (length s) (a .short), answerOf) (go (badPath path) (badAsked asked))
-  where
-    q : Access
-    q = record { path = path; owner = owner }
-
-    inner : answerBy s (fileOf s) name q asked ≡ answerFrom (findings (finalSets [] (f .preamble)) q rs) asked
-    inner = rw (a .file) (held (finalSets [] (f .preamble)) q asked name rs (f .profiles) h)
-
-    go : (x y : Bool)
-        → _≡_ {A = Answer} (elim x as (λ _. Answer) [ true ↦ refusal 2 0 | false ↦ elim y as (λ _. Answer) [ true ↦ refusal 3 0 | false ↦ answerBy s (fileOf s) name q asked ] ])
-        (checked x y (answerFrom (findings (finalSets [] (f .preamble)) q rs) asked))
-    go true y = refl
-    go false true = refl
-    go false false = inner
-
 -- "With the same preamble and the same rules in the asked profile, two accepted files that both hold it answer alike, whatever their
 -- other profiles hold."
-pub other-profiles : (s t name path : List ℕ) (asked : ℕ) (owner : Bool) (f g : File) (xs ys : List Rule) → Accepted s f → Accepted t g → f .preamble ≡ g .preamble
-    → Holds name xs (f .profiles) → Holds name ys (g .profiles) → SameRules xs ys → answerOf s name path asked owner ≡ answerOf t name path asked owner
-other-profiles s t name path asked owner f g xs ys a b same hx hy rules =
-    answered s name path asked owner f xs a hx
-    ∙ ap (checked (badPath path) (badAsked asked))
-    (answer-fixed (findings (finalSets [] (f .preamble)) q xs) (findings (finalSets [] (f .preamble)) q ys) asked (findings-same (finalSets [] (f .preamble)) q xs ys rules)
-    ∙ ap (λ (vs : List Variable). answerFrom (findings vs q ys) asked) (ap (finalSets []) same))
-    ∙ sym (answered t name path asked owner g ys b hy)
-  where
-    q : Access
-    q = record { path = path; owner = owner }
+pub other-profiles : (s t name path : List ℕ) (asked : ℕ) (owner : Bool) (f g : File) (p q : Profile) → Accepted s f → Accepted t g → f .preamble ≡ g .preamble
+    → List·Memᴰ p (f .profiles) → List·Memᴰ q (g .profiles) → p .name ≡ name → q .name ≡ name → SameRules (p .rules) (q .rules)
+    → answerOf s name path asked owner ≡ answerOf t name path asked owner
+other-profiles s t name path asked owner f g p q a b same m k d e rules =
+    let x = held s f a p m name d in
+    let y = held t g b q k name e in
+    one-name SameRules (λ u v. u ≡ v) s t name path asked owner f g (λ n line. refl) (λ vs xs ys h. rules-same vs (record { path = path; owner = owner }) asked xs ys h) a b
+    same (x .0 ∙ sym (y .0))
+    (λ _. subst (λ (rs : List Rule). SameRules rs (rulesOf name (g .profiles))) (sym (x .1)) (subst (λ (rs : List Rule). SameRules (p .rules) rs) (sym (y .1)) rules))

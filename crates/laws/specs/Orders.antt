@@ -2,10 +2,9 @@
 use Prim.Native.Nat.{ℕ, _≤_, _<_}
 use mathlib.Core.Path.{_≡_}
 use mathlib.Core.List.{List, [], _∷_, List·Memᴰ}
-use mathlib.Core.Bool.{Bool, true, false}
+use mathlib.Core.Bool.{Bool, true}
 use mathlib.Core.Logic.{_⊎_}
 use lib.ListN.{length}
-use Rattle.scan.specs.Bytes.{same}
 use Rattle.perms.specs.Sets.{has}
 use Rattle.modes.specs.declared.Mode.{Mode}
 use Rattle.modes.specs.declared.Execute.the-variants.{Conflict, ByMode}
@@ -20,7 +19,8 @@ pub record Accepted (text : List ℕ) (f : File) : Type 0 where
   pub file : fileOf text ≡ Read f
 
 -- "If each profile holds the same rules, in whatever order and each however often": a rule stands in one exactly when it stands in
--- the other. Rules are equal when their bytes are: "quotes, a written allow and the order or repeating of letters in PERMS aside".
+-- the other. Rules whose tokens are the same, quotes, a written allow and the order or repeating of letters in PERMS aside, are equal
+-- (proofs/Written.antt).
 abbrev pub SameRules : List Rule → List Rule → Type 0
 SameRules xs ys = ((r : Rule) → List·Memᴰ r xs → List·Memᴰ r ys) × ((r : Rule) → List·Memᴰ r ys → List·Memᴰ r xs)
 
@@ -30,20 +30,12 @@ pub data Added (p : Rule → Bool) : List Rule → List Rule → Type 0 where
   kept : {xs ys : List Rule} (r : Rule) → Added p xs ys → Added p (r ∷ xs) (r ∷ ys)
   added : {xs ys : List Rule} (r : Rule) → p r ≡ true → Added p xs ys → Added p xs (r ∷ ys)
 
--- profiles of the same names in the same order, whose rules are related by R
-pub data Paired (R : List Rule → List Rule → Type 0) : List Profile → List Profile → Type 0 where
-  none : Paired R [] []
-  both : {ps qs : List Profile} (p q : Profile) → p .name ≡ q .name → R (p .rules) (q .rules) → Paired R ps qs → Paired R (p ∷ ps) (q ∷ qs)
-
--- "Files are the same but for their rules when preamble and profile names are"; the rules are related by R
+-- "Files are the same but for their rules when preamble and profile names are": each profile of the one has one of its name in the other,
+-- in whatever order they stand; the rules of the two are related by R
 pub record SameButRules (R : List Rule → List Rule → Type 0) (f g : File) : Type 0 where
   pub preamble : f .preamble ≡ g .preamble
-  pub profiles : Paired R (f .profiles) (g .profiles)
-
--- the profile of that name holds these rules
-pub data Holds (name : List ℕ) (rules : List Rule) : List Profile → Type 0 where
-  here : {ps : List Profile} (p : Profile) → same (p .name) name ≡ true → p .rules ≡ rules → Holds name rules (p ∷ ps)
-  later : {ps : List Profile} (p : Profile) → same (p .name) name ≡ false → Holds name rules ps → Holds name rules (p ∷ ps)
+  pub there : (p : Profile) → List·Memᴰ p (f .profiles) → (q : Profile) × List·Memᴰ q (g .profiles) × (p .name ≡ q .name) × R (p .rules) (q .rules)
+  pub back : (q : Profile) → List·Memᴰ q (g .profiles) → (p : Profile) × List·Memᴰ p (f .profiles) × (p .name ≡ q .name)
 
 -- ---- what demand 3 says of two answers, the one before and the one after
 
