@@ -12,11 +12,11 @@ use lib.Seq.{set-at, take-suc, take-all}
 use borrow.Author.Tests.{eqb-true}
 use Rattle.scan.specs.Bytes.{every, if_then_else_}
 use Rattle.scan.proofs.Bools.{and-left}
-use Rattle.perms.specs.Sets.{has, setOf, perms, without, within}
+use Rattle.perms.specs.Sets.{has, setOf, perms, unite, without, within}
 use Rattle.perms.specs.declared.Perms.{Perms}
 use Rattle.modes.specs.declared.Execute.{Execute}
 use Rattle.modes.specs.declared.Execute.the-variants.{NotAsked, Denied, Conflict, ByMode}
-use Rattle.perms.proofs.Laws.{has-and, has-or, has-set, has-within, has-without, set-eq, set-lt, within-has}
+use Rattle.perms.proofs.Laws.{has-and, has-or, has-set, has-unite, has-within, has-without, set-eq, set-lt, unite-lt, within-has, without-le}
 use Rattle.family.specs.Members.{preferred, Choice, None, Single, Several, choice}
 use Rattle.findings.specs.Findings.{Move, Findings, sameMove}
 use Rattle.findings.specs.Weighed.{Weighed, weighed}
@@ -35,8 +35,8 @@ has-all k h = has-set 7 (λ k. true) k h
 pub within-x : (a : Perms) → a .0 < 256 → within (perms 64) a ≡ has (a .0) x
 within-x a h =
     go (within (perms 64) a) (has (a .0) x)
-    (λ e. within-has (perms 64) a x e (has-x x (omega arith)))
-    (λ e. has-within (perms 64) a (omega arith) h (λ k l q. subst (λ (j : ℕ). has (a .0) j ≡ true) (sym (eqb-true k x (sym (has-x k l) ∙ q))) e))
+    (λ e. within-has (perms 64) a x (omega arith) e (has-x x (omega arith)))
+    (λ e. has-within (perms 64) a (λ k l q. subst (λ (j : ℕ). has (a .0) j ≡ true) (sym (eqb-true k x (sym (has-x k l) ∙ q))) e))
   where
     go : (p q : Bool) → (p ≡ true → q ≡ true) → (q ≡ true → p ≡ true) → p ≡ q
     go true q f g = sym (f refl)
@@ -72,27 +72,26 @@ named-target (ByMode m) Several = refl
 
 -- ---- granted
 
-without-le : (a b : Perms) → without a b .0 ≤ a .0
-without-le a b = and-le-l (a .0) (255 - b .0)
-
 module _ (asked allowed denied : Perms) (h : denied .0 < 256) where
   abbrev left : Perms
   left = without (perms (bitAnd (asked .0) (allowed .0))) denied
 
   left-each : (k : ℕ) → k < 7 → has (left .0) k ≡ ((has (asked .0) k && has (allowed .0) k) && not (has (denied .0) k))
-  left-each k l = has-without (perms (bitAnd (asked .0) (allowed .0))) denied k h (omega arith) ∙ ap (λ (b : Bool). b && not (has (denied .0) k)) (has-and (asked .0) (allowed .0) k)
+  left-each k l = has-without (perms (bitAnd (asked .0) (allowed .0))) denied k (omega arith) ∙ ap (λ (b : Bool). b && not (has (denied .0) k)) (has-and (asked .0) (allowed .0) k)
 
-  left-le : left .0 ≤ asked .0
-  left-le = omega (arith, without-le (perms (bitAnd (asked .0) (allowed .0))) denied, and-le-l (asked .0) (allowed .0))
+  left-le : asked .0 < 256 → left .0 ≤ asked .0
+  left-le s =
+      let e = and-le-l (asked .0) (allowed .0) in
+      omega (arith, without-le (perms (bitAnd (asked .0) (allowed .0))) denied (omega arith) h)
 
   pub granted-mode : Granted (asked .0) (allowed .0) (denied .0) true (left .0)
-  granted-mode = record { each = λ k l. left-each k l ∙ rw (or-true, and-true); small = λ s. omega (arith, left-le) }
+  granted-mode = record { each = λ k l. left-each k l ∙ rw (or-true, and-true); small = λ s. omega (arith, left-le (omega arith)) }
 
   pub granted-none : Granted (asked .0) (allowed .0) (denied .0) false (without left (perms 64) .0)
   granted-none =
       record {
-        each = λ k l. has-without left (perms 64) k (omega arith) (omega arith) ∙ rw (left-each k l, has-x k (omega arith), or-false);
-        small = λ s. omega (arith, left-le, without-le left (perms 64));
+        each = λ k l. has-without left (perms 64) k (omega arith) ∙ rw (left-each k l, has-x k (omega arith), or-false);
+        small = λ s. let e = left-le (omega arith) in omega (arith, without-le left (perms 64) (omega arith) (omega arith));
       }
 
 -- ---- recorded
@@ -101,30 +100,33 @@ module _ (asked granted denied : Perms) (allowedAudit deniedAudit : ℕ) (hg : g
   abbrev refused : Perms
   refused = without asked granted
 
-  abbrev byAllow : ℕ
-  byAllow = bitAnd (granted .0) allowedAudit
+  abbrev byAllow : Perms
+  byAllow = perms (bitAnd (granted .0) allowedAudit)
 
-  abbrev byDeny : ℕ
-  byDeny = bitAnd (bitAnd (refused .0) (denied .0)) deniedAudit
+  abbrev byDeny : Perms
+  byDeny = perms (bitAnd (bitAnd (refused .0) (denied .0)) deniedAudit)
 
   refused-each : (k : ℕ) → k < 7 → has (refused .0) k ≡ (has (asked .0) k && not (has (granted .0) k))
-  refused-each k l = has-without asked granted k hg (omega arith)
+  refused-each k l = has-without asked granted k (omega arith)
 
-  pub recorded-each : Recorded (asked .0) (granted .0) allowedAudit (denied .0) deniedAudit (bitOr (bitOr byAllow byDeny) (without refused denied .0))
+  pub recorded-each : Recorded (asked .0) (granted .0) allowedAudit (denied .0) deniedAudit (unite (unite byAllow byDeny) (without refused denied) .0)
   recorded-each =
       record {
         each = λ k l. rw (
-          has-or (bitOr byAllow byDeny) (without refused denied .0) k,
-          has-or byAllow byDeny k,
+          has-unite (unite byAllow byDeny) (without refused denied) k (omega arith),
+          has-unite byAllow byDeny k (omega arith),
           has-and (granted .0) allowedAudit k,
           has-and (bitAnd (refused .0) (denied .0)) deniedAudit k,
           has-and (refused .0) (denied .0) k,
-          has-without refused denied k hd (omega arith),
+          has-without refused denied k (omega arith),
           refused-each k l,
         );
-        small = λ ha hs. or-lt 7 (bitOr byAllow byDeny) (without refused denied .0)
-            (or-lt 7 byAllow byDeny (omega (arith, and-le-l (granted .0) allowedAudit)) (omega (arith, and-le-l (bitAnd (refused .0) (denied .0)) deniedAudit, and-le-l (refused .0) (denied .0), without-le asked granted)))
-            (omega (arith, without-le refused denied, without-le asked granted));
+        small = λ ha hs.
+            let r : refused .0 < 128 = omega (arith, without-le asked granted (omega arith) hg) in
+            let a : byAllow .0 < 128 = omega (arith, and-le-l (granted .0) allowedAudit) in
+            let d : byDeny .0 < 128 = omega (arith, and-le-l (bitAnd (refused .0) (denied .0)) deniedAudit, and-le-l (refused .0) (denied .0)) in
+            let u : unite byAllow byDeny .0 < 128 = unite-lt byAllow byDeny (omega arith) (omega arith) a d in
+            unite-lt (unite byAllow byDeny) (without refused denied) (omega arith) (omega (arith, without-le refused denied (omega arith) hd)) u (omega (arith, without-le refused denied (omega arith) hd));
       }
 
 -- ---- the parts as the definitions have them

@@ -1,11 +1,11 @@
 -- Blanks and comments, and what stands next at a place of a text.
-use Prim.Native.Nat.{ℕ, suc, _+_}
+use Prim.Native.Nat.{ℕ, zero, suc, _+_}
 use Prim.Native.Char.{code}
 use mathlib.Core.List.{List, [], _∷_}
-use mathlib.Core.Bool.{Bool, true, false, not, _||_, _&&_}
+use mathlib.Core.Bool.{Bool, not, _||_, _&&_}
 use lib.ListN.{take, drop}
 use lib.Dec.{eqb}
-use Rattle.scan.specs.Bytes.{bytes, same, startsWith}
+use Rattle.scan.specs.Bytes.{bytes, run, same, startsWith, if_then_else_}
 
 abbrev pub nul : ℕ
 nul = code "\0"
@@ -24,24 +24,22 @@ blank b = inLine b || eqb b (code "\n")
 unfoldable pub includes : List ℕ → Bool
 includes s = same (take 8 s) (bytes "#include")
 
--- how many bytes from the front are blanks and comments: "# starts a comment to the line's end";
--- a NUL, in comments too, and #include are neither. The flag says that a comment has begun.
-unfoldable pub skip : Bool → List ℕ → ℕ
-skip comment [] = 0
-skip true (b ∷ s) = elim (eqb b nul) [ true ↦ 0 | false ↦ suc (skip (not (eqb b (code "\n"))) s) ]
-skip false (b ∷ s) =
-    elim (blank b) [
-      | true ↦ suc (skip false s)
-      | false ↦ elim (eqb b hash && not (includes (b ∷ s))) [ true ↦ suc (skip true s) | false ↦ 0 ]
-    ]
-
--- a byte inside a comment
+-- "# starts a comment to the line's end": what follows the #; a NUL is no part of it
 abbrev pub inComment : ℕ → Bool
 inComment b = not (eqb b (code "\n") || eqb b nul)
 
+-- how many bytes from the front are blanks and comments, #include aside, where the first k are known to be
+unfoldable pub skip : (k : ℕ) → List ℕ → ℕ
+skip k [] = 0
+skip (suc k) (b ∷ s) = suc (skip k s)
+skip zero (b ∷ s) =
+    if blank b then suc (skip 0 s)
+    else if eqb b hash && not (includes (b ∷ s)) then suc (skip (run inComment s) s)
+    else 0
+
 -- the place of what stands next
 abbrev pub standing : List ℕ → ℕ → ℕ
-standing s at = at + skip false (drop at s)
+standing s at = at + skip 0 (drop at s)
 
 -- what stands at a place begins with these bytes
 abbrev pub standsAt : (word : List ℕ) → List ℕ → ℕ → Bool

@@ -1,10 +1,11 @@
 // The rules of a profile, read from a text.
-use rule::Got;
 use statement::Step;
 use statement::rule_at;
 use text::Place;
 use text::Stop;
 use text::TOO_MUCH;
+use tokens::Read;
+use tokens::stop_of;
 ghost use mathlib.Core.Path.{_≡_};
 ghost use Rattle.faults.specs.Sized.{faultBy};
 ghost use Rattle.rule.specs.Rules.{endAt, rulesAt};
@@ -30,16 +31,15 @@ fn rules_end(text: &[u8], count: usize, at: Place) -> RulesRead
         };
     }
     let q = rule::qualifiers_at(text, at);
-    match rule::pattern_at(text, q) {
-        Got::Refused(stop) => RulesRead::Refused(stop),
-        Got::Token(t) => {
-            let start = t.start;
-            RulesRead::Refused(Stop {
-                number: TOO_MUCH,
-                place: start,
-            })
-        }
-    }
+    let token = rule::pattern_at(text, q);
+    let Read::Found(t) = token else {
+        return RulesRead::Refused(stop_of(text, token));
+    };
+    let start = t.start;
+    RulesRead::Refused(Stop {
+        number: TOO_MUCH,
+        place: start,
+    })
 }
 
 // The rules of a profile, where so many are allowed.

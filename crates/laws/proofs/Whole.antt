@@ -6,19 +6,18 @@ use mathlib.Core.Path.{_≡_, refl, sym, ap, ap₂, _∙_, subst}
 use mathlib.Core.List.{List, [], _∷_}
 use mathlib.Core.Bool.{Bool, true, false, not, _||_, _&&_, false≢true, or-false, or-true}
 use lib.ListN.{length, getD, take, drop, take-append-drop}
-use lib.Seq.{drop-drop}
 use lib.Dec.{eqb}
 use borrow.Author.Tests.{eqb-true}
-use Rattle.scan.specs.Bytes.{bytes, same, holds, every, some, run}
+use Rattle.scan.specs.Bytes.{bytes, same, holds, every, some, run, if_then_else_}
 use Rattle.scan.proofs.Bools.{and-left, and-right}
-use Rattle.scan.proofs.Laws.{part, same-eq, some-append}
+use Rattle.scan.proofs.Laws.{same-eq, some-append}
 use Rattle.perms.specs.Sets.{has, perms}
 use Rattle.perms.proofs.Laws.{has-set}
 use Rattle.perms.specs.declared.Perms.{Perms}
 use Rattle.modes.specs.Modes.{Row, modes, modeIn}
 use Rattle.modes.specs.declared.Transition.{Transition}
 use Rattle.modes.specs.declared.Transition.the-variants.{Absent, ByMode}
-use Rattle.perms_word.specs.Words.{letters, permLetter, other, modeStart, modeEnd, modePart, carried, named, withMode, wordOf}
+use Rattle.perms_word.specs.Words.{letters, permLetter, beforeLetters, modePart, carried, named, withMode, wordOf}
 use Rattle.perms_word.specs.declared.Word.{Word}
 use Rattle.perms_word.specs.declared.Word.the-variants.{Carries, Bad}
 use Rattle.text.specs.Reading.{Reading, Read, Refused, _>>=_, refuseIf, judged}
@@ -58,20 +57,23 @@ run-every p (b ∷ s) = go (p b) refl (run-every p s)
     go true e h = rw e h
     go false e h = refl
 
--- an x of a word stands in its mode part
-mode-x : (w : List ℕ) → every permLetter (drop (modeEnd w) w) ≡ true → holds (code "x") w ≡ holds (code "x") (modePart w)
-mode-x w e =
-    split (modeStart w) w
-    ∙ ap₂ _||_ (no-x (take (modeStart w) w) (run-every permLetter w)) (split n (drop (modeStart w) w))
-    ∙ ap₂ _||_ (ap (holds (code "x")) (sym (part (modeStart w) n w)))
-    (ap (holds (code "x")) (drop-drop n (modeStart w) w) ∙ no-x (drop (modeEnd w) w) e)
-    ∙ or-false (holds (code "x") (modePart w))
+before-x : (s : List ℕ) → holds (code "x") (beforeLetters s) ≡ holds (code "x") s
+unfolding beforeLetters some
+before-x [] = refl
+before-x (b ∷ s) = go (every permLetter (b ∷ s)) refl (before-x s)
   where
-    n : ℕ
-    n = run other (drop (modeStart w) w)
+    go : (c : Bool) → every permLetter (b ∷ s) ≡ c → holds (code "x") (beforeLetters s) ≡ holds (code "x") s
+        → holds (code "x") (if c then [] else b ∷ beforeLetters s) ≡ holds (code "x") (b ∷ s)
+    go true e h = sym (no-x (b ∷ s) e)
+    go false e h = ap (λ (x : Bool). eqb (code "x") b || x) h
 
-    split : (k : ℕ) (s : List ℕ) → holds (code "x") s ≡ (holds (code "x") (take k s) || holds (code "x") (drop k s))
-    split k s = ap (holds (code "x")) (sym (take-append-drop k s)) ∙ some-append (eqb (code "x")) (take k s) (drop k s)
+-- an x of a word stands in its mode part
+mode-x : (w : List ℕ) → holds (code "x") w ≡ holds (code "x") (modePart w)
+mode-x w =
+    let k : ℕ = run permLetter w in
+    ap (holds (code "x")) (sym (take-append-drop k w))
+    ∙ some-append (eqb (code "x")) (take k w) (drop k w)
+    ∙ ap₂ _||_ (no-x (take k w) (run-every permLetter w)) (sym (before-x (drop k w)))
 
 -- every mode has an x
 table-x : every (λ (r : Row). holds (code "x") (bytes (r .word))) modes ≡ true
@@ -119,13 +121,11 @@ carries-x w = has-set 7 (λ k. holds (getD letters k 0) w || (eqb k 2 && holds (
 word-fits : (deny : Bool) (w : List ℕ) → Fits deny (wordOf deny w)
 unfolding wordOf
 word-fits deny [] = tt
-word-fits deny (b ∷ w) = go (every permLetter (drop (modeEnd (b ∷ w)) (b ∷ w))) refl (not (holds (code "w") (b ∷ w) && holds (code "a") (b ∷ w)))
+word-fits deny (b ∷ w) = go (holds (code "w") (b ∷ w) && holds (code "a") (b ∷ w))
   where
-    go : (c : Bool) → every permLetter (drop (modeEnd (b ∷ w)) (b ∷ w)) ≡ c → (d : Bool)
-        → Fits deny (elim (c && d) as (λ _. Word) [ true ↦ withMode deny (perms (carried (b ∷ w))) (modePart (b ∷ w)) | false ↦ Bad ])
-    go true e true = mode-fits deny (perms (carried (b ∷ w))) (modePart (b ∷ w)) (carries-x (b ∷ w) ∙ mode-x (b ∷ w) e)
-    go true e false = tt
-    go false e d = tt
+    go : (c : Bool) → Fits deny (if c then Bad else withMode deny (perms (carried (b ∷ w))) (modePart (b ∷ w)))
+    go true = tt
+    go false = mode-fits deny (perms (carried (b ∷ w))) (modePart (b ∷ w)) (carries-x (b ∷ w) ∙ mode-x (b ∷ w))
 
 -- ---- what is read, if it is, keeps a law
 
@@ -133,9 +133,9 @@ data Keeps {A : Type 0} (P : A → Type 0) : Reading A → Type 0 where
   good : {a : A} → P a → Keeps P (Read a)
   refused : {n p : ℕ} → Keeps P (Refused n p)
 
-then : {A B : Type 0} {P : A → Type 0} {Q : B → Type 0} (f : A → Reading B) {r : Reading A} → Keeps P r → ((a : A) → P a → Keeps Q (f a)) → Keeps Q (r >>= f)
-then f (good {a = a} k) h = h a k
-then f refused h = refused
+after : {A B : Type 0} {P : A → Type 0} {Q : B → Type 0} (f : A → Reading B) {r : Reading A} → Keeps P r → ((a : A) → P a → Keeps Q (f a)) → Keeps Q (r >>= f)
+after f (good {a = a} k) h = h a k
+after f refused h = refused
 
 next : {A B : Type 0} {Q : B → Type 0} (f : A → Reading B) (r : Reading A) → ((a : A) → Keeps Q (f a)) → Keeps Q (r >>= f)
 next f (Read a) h = h a
@@ -155,7 +155,7 @@ rule-whole : (fault : List ℕ → ℕ) (s : List ℕ) (q : Qualifiers) (t : Tok
 unfolding ruleFrom ruleEnd
 rule-whole fault s q t =
     next _ (judged (fault (t .content)) (t .start)) λ u.
-    then _ (perms-fit (q .deny) s (t .next)) λ p h.
+    after _ (perms-fit (q .deny) s (t .next)) λ p h.
     next _ (targetAt (p .transition) s (p .next)) λ to.
     next _ (commaAt s (to .next)) λ n. good h
 
@@ -173,16 +173,16 @@ step-whole fault s at = go (standsAt (bytes "}") s at)
           | false ↦ patternAt s (qualifiersAt s at) >>= λ t. ruleFrom fault s (qualifiersAt s at) t >>= λ r. Read (More r)
         ])
     go true = good tt
-    go false = next _ (patternAt s (qualifiersAt s at)) λ t. then _ (rule-whole fault s (qualifiersAt s at) t) λ r h. good h
+    go false = next _ (patternAt s (qualifiersAt s at)) λ t. after _ (rule-whole fault s (qualifiersAt s at) t) λ r h. good h
 
 rules-whole : (left : ℕ) (fault : List ℕ → ℕ) (s : List ℕ) (at : ℕ) → Keeps (λ (r : RulesRead). every whole (r .rules) ≡ true) (rulesAt left fault s at)
 unfolding rulesAt every
 rules-whole zero fault s at = next _ (endAt s at) λ n. good refl
-rules-whole (suc left) fault s at = then _ (step-whole fault s at) λ x h. go x h (rules-whole left fault s)
+rules-whole (suc left) fault s at = after _ (step-whole fault s at) λ x h. go x h (rules-whole left fault s)
   where
     go : (x : Step) → WholeStep x → ((next : ℕ) → Keeps (λ (r : RulesRead). every whole (r .rules) ≡ true) (rulesAt left fault s next))
         → Keeps (λ (r : RulesRead). every whole (r .rules) ≡ true) (stepThen (λ r. rulesAt left fault s (r .next)) x)
-    go (More r) h k = then _ (k (r .next)) λ more g. good (ap₂ _&&_ h g)
+    go (More r) h k = after _ (k (r .next)) λ more g. good (ap₂ _&&_ h g)
     go (Close n) h k = good refl
 
 -- ---- profiles and files
@@ -194,7 +194,7 @@ profile-whole : (full : Bool) (rulesLeft : ℕ) (used : List (List ℕ)) (vs : L
     → Keeps (λ (x : OneProfile). every whole (x .profile .rules) ≡ true) (profileAt full rulesLeft used vs s at)
 unfolding profileAt
 profile-whole full rulesLeft used vs s at =
-    next _ (headAt full used s at) λ h. then _ (rules-whole rulesLeft (patternFault vs) s (h .next)) λ rs g. good g
+    next _ (headAt full used s at) λ h. after _ (rules-whole rulesLeft (patternFault vs) s (h .next)) λ rs g. good g
 
 end-whole : (s : List ℕ) (at : ℕ) (more : Reading (List Profile)) → Keeps wholeProfiles more → Keeps wholeProfiles (unlessEnd s at more)
 unfolding unlessEnd every
@@ -209,12 +209,12 @@ unfolding profilesAt every
 profiles-whole zero rulesLeft used vs s at = end-whole s at _ (next _ (profileAt true rulesLeft used vs s at) λ x. refused)
 profiles-whole (suc left) rulesLeft used vs s at =
     end-whole s at _
-    (then _ (profile-whole false rulesLeft used vs s at) λ x g.
-    then _ (profiles-whole left (rulesLeft - x .count) (x .profile .name ∷ used) vs s (x .next)) λ more e. good (ap₂ _&&_ g e))
+    (after _ (profile-whole false rulesLeft used vs s at) λ x g.
+    after _ (profiles-whole left (rulesLeft - x .count) (x .profile .name ∷ used) vs s (x .next)) λ more e. good (ap₂ _&&_ g e))
 
 file-whole : (s : List ℕ) → Keeps (λ (f : File). wholeFile f ≡ true) (fileOf s)
 unfolding fileOf
-file-whole s = next _ (preambleAt 512 [] s 0) λ p. then _ (profiles-whole 32 512 [] (p .variables) s (p .next)) λ ps h. good h
+file-whole s = next _ (preambleAt 512 [] s 0) λ p. after _ (profiles-whole 32 512 [] (p .variables) s (p .next)) λ ps h. good h
 
 read-keeps : {A : Type 0} {P : A → Type 0} {r : Reading A} (a : A) → Keeps P r → r ≡ Read a → P a
 read-keeps {A} {P} a (good h) e = subst P (sym (inner e)) h

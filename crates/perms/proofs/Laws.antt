@@ -2,13 +2,13 @@
 use mathlib.Core.Path.{_≡_, refl, sym, ap, _∙_, subst}
 use mathlib.Core.Logic.{⊎-elim, _⊎_, inl, inr}
 use mathlib.Core.Bool.{Bool, true, false, not, _&&_, _||_, Bool·beq, or-assoc, false≢true}
-use Prim.Native.Nat.{ℕ, zero, suc, _+_, _*_, _/_, _%_, _^_, _-_, _<_}
+use Prim.Native.Nat.{ℕ, zero, suc, _+_, _*_, _/_, _%_, _^_, _-_, _≤_, _<_}
 use native.Mathlib.Nat.{not-suc-le-zero, zero-lt-suc, pow-suc, div-div-eq-div-mul, mul-comm, div-one, lt-of-lt-of-le}
 use native.Mathlib.Omega.{arith}
 use lib.Dec.{eqb}
 use lib.Arith.{lt-one}
 use lib.Pow.{pow-mono}
-use lib.Bits.{bitAnd, bitOr, or-shr, or-mod, and-shr, and-mod, or-lt, and-lt, or-comm, or-self}
+use lib.Bits.{bitAnd, bitOr, or-shr, or-mod, and-shr, and-mod, or-lt, and-lt, and-le-l}
 use borrow.Author.Tests.{eqb-true, eq-eqb}
 use Rattle.scan.proofs.Bools.{and-left, and-right}
 use Rattle.perms.specs.Sets.{has, digit, setOf, perms, unite, without, within}
@@ -159,32 +159,61 @@ or-associative a b c =
     ext n (bitOr (bitOr a b) c) (bitOr a (bitOr b c)) (or-lt n (bitOr a b) c (or-lt n a b ha hb) hc) (or-lt n a (bitOr b c) ha (or-lt n b c hb hc))
     (λ k l. rw (has-or (bitOr a b) c k, has-or a b k, has-or a (bitOr b c) k, has-or b c k, or-assoc))
 
-pub unite-comm : (a b : Perms) → unite a b ≡ unite b a
-unite-comm a b = ap perms (or-comm (a .0) (b .0))
+-- the operations of the code: the sets of the definitions by the machine's operators
+module _ (a b : Perms) (ha : a .0 < 256) (hb : b .0 < 256) where
+  pub or-unite : unite a b ≡ perms (bitOr (a .0) (b .0))
+  or-unite = ap perms (sym (set-eq 8 (bitOr (a .0) (b .0)) (λ k. has (a .0) k || has (b .0) k) (or-lt 8 (a .0) (b .0) ha hb) (λ k l. has-or (a .0) (b .0) k)))
 
-pub unite-assoc : (a b c : Perms) → unite (unite a b) c ≡ unite a (unite b c)
-unite-assoc a b c = ap perms (or-associative (a .0) (b .0) (c .0))
+  pub unite-lt : a .0 < 128 → b .0 < 128 → unite a b .0 < 128
+  unite-lt ka kb = let e : unite a b .0 ≡ bitOr (a .0) (b .0) = ap (λ (p : Perms). p .0) or-unite in omega (arith, or-lt 7 (a .0) (b .0) ka kb)
 
-pub unite-self : (a : Perms) → unite a a ≡ a
-unite-self a = ap perms (or-self (a .0))
+  pub and-without : without a b ≡ perms (bitAnd (a .0) (255 - b .0))
+  and-without =
+      ap perms
+      (sym
+      (set-eq 8 (bitAnd (a .0) (255 - b .0)) (λ k. has (a .0) k && not (has (b .0) k)) (and-lt 8 (a .0) (255 - b .0) ha (omega arith))
+      (λ k l. rw (has-and (a .0) (255 - b .0) k, has-not (b .0) k hb l))))
 
-pub has-unite : (a b : Perms) (k : ℕ) → has (unite a b .0) k ≡ (has (a .0) k || has (b .0) k)
-has-unite a b k = has-or (a .0) (b .0) k
+  pub without-le : without a b .0 ≤ a .0
+  without-le = let e : without a b .0 ≡ bitAnd (a .0) (255 - b .0) = ap (λ (p : Perms). p .0) and-without in omega (arith, and-le-l (a .0) (255 - b .0))
 
--- difference, and a set within another
+-- what is in a union, in a difference, and in a set within another
+module _ (a b : Perms) where
+  pub has-unite : (k : ℕ) → k < 8 → has (unite a b .0) k ≡ (has (a .0) k || has (b .0) k)
+  has-unite k l = has-set 8 (λ k. has (a .0) k || has (b .0) k) k l
 
-pub has-without : (a b : Perms) (k : ℕ) → b .0 < 256 → k < 8 → has (without a b .0) k ≡ (has (a .0) k && not (has (b .0) k))
-has-without a b k hb hk = rw (has-and (a .0) (255 - b .0) k, has-not (b .0) k hb hk)
+  pub has-without : (k : ℕ) → k < 8 → has (without a b .0) k ≡ (has (a .0) k && not (has (b .0) k))
+  has-without k l = has-set 8 (λ k. has (a .0) k && not (has (b .0) k)) k l
 
-pub within-has : (a b : Perms) (k : ℕ) → within a b ≡ true → has (a .0) k ≡ true → has (b .0) k ≡ true
-within-has a b k e h =
-    let q : bitAnd (b .0) (a .0) ≡ a .0 = eqb-true (bitAnd (b .0) (a .0)) (a .0) e in
-    and-left (has (b .0) k) (has (a .0) k) (sym (has-and (b .0) (a .0) k) ∙ ap (λ (n : ℕ). has n k) q ∙ h)
+  none-lacking : (x y : Bool) → (x && not y) ≡ false → x ≡ true → y ≡ true
+  none-lacking true true e h = refl
+  none-lacking true false e h = absurd (false≢true (sym e))
+  none-lacking false y e h = absurd (false≢true h)
 
-pub has-within : (a b : Perms) → a .0 < 256 → b .0 < 256 → ((k : ℕ) → k < 8 → has (a .0) k ≡ true → has (b .0) k ≡ true) → within a b ≡ true
-has-within a b ha hb h =
-    eq-eqb (bitAnd (b .0) (a .0)) (a .0)
-    (ext 8 (bitAnd (b .0) (a .0)) (a .0) (and-lt 8 (b .0) (a .0) hb ha) ha (λ k l. has-and (b .0) (a .0) k ∙ go (has (b .0) k) (has (a .0) k) (h k l)))
+  all-there : (x y : Bool) → (x ≡ true → y ≡ true) → false ≡ (x && not y)
+  all-there true y f = rw (f refl)
+  all-there false y f = refl
+
+  pub within-has : (k : ℕ) → k < 8 → within a b ≡ true → has (a .0) k ≡ true → has (b .0) k ≡ true
+  within-has k l e =
+      none-lacking (has (a .0) k) (has (b .0) k) (sym (has-without k l) ∙ ap (λ (n : ℕ). has n k) (eqb-true (without a b .0) 0 e) ∙ has-set 8 (λ _. false) k l)
+
+  pub has-within : ((k : ℕ) → k < 8 → has (a .0) k ≡ true → has (b .0) k ≡ true) → within a b ≡ true
+  has-within h =
+      eq-eqb (without a b .0) 0
+      (sym (set-eq 8 0 (λ k. has (a .0) k && not (has (b .0) k)) (omega arith) (λ k l. has-set 8 (λ _. false) k l ∙ all-there (has (a .0) k) (has (b .0) k) (h k l))))
+
+iff : (p q : Bool) → (p ≡ true → q ≡ true) → (q ≡ true → p ≡ true) → p ≡ q
+iff true q f g = sym (f refl)
+iff false true f g = g refl
+iff false false f g = refl
+
+pub and-within : (a b : Perms) → a .0 < 256 → b .0 < 256 → within a b ≡ eqb (bitAnd (b .0) (a .0)) (a .0)
+and-within a b ha hb =
+    iff (within a b) (eqb (bitAnd (b .0) (a .0)) (a .0))
+    (λ e. eq-eqb (bitAnd (b .0) (a .0)) (a .0)
+    (ext 8 (bitAnd (b .0) (a .0)) (a .0) (and-lt 8 (b .0) (a .0) hb ha) ha (λ k l. has-and (b .0) (a .0) k ∙ go (has (b .0) k) (has (a .0) k) (within-has a b k l e))))
+    (λ e. has-within a b (λ k l h. and-left (has (b .0) k) (has (a .0) k) (sym (has-and (b .0) (a .0) k) ∙ ap (λ (n : ℕ). has n k) (eqb-true (bitAnd (b .0) (a .0)) (a .0) e) ∙ h)))
   where
     go : (x y : Bool) → (y ≡ true → x ≡ true) → (x && y) ≡ y
     go true y f = refl

@@ -1,8 +1,7 @@
 -- A permission set is a number: permission k of the paper's list is in it when its binary digit k is 1.
-use Prim.Native.Nat.{ℕ, zero, suc, _+_, _*_, _/_, _%_, _^_, _-_}
-use mathlib.Core.Bool.{Bool, true, false}
+use Prim.Native.Nat.{ℕ, zero, suc, _+_, _*_, _/_, _%_, _^_}
+use mathlib.Core.Bool.{Bool, true, false, not, _&&_, _||_}
 use lib.Dec.{eqb}
-use lib.Bits.{bitAnd, bitOr}
 use Rattle.perms.specs.declared.Perms.{Perms}
 
 -- permission k is in the set n
@@ -22,14 +21,14 @@ setOf (suc n) f = digit (f 0) + 2 * setOf n (λ k. f (suc k))
 abbrev pub perms : ℕ → Perms
 perms n = record { 0 = n }
 
--- the permissions of either set
+-- the permissions of either set; a number of the code has eight digits
 abbrev pub unite : Perms → Perms → Perms
-unite a b = perms (bitOr (a .0) (b .0))
+unite a b = perms (setOf 8 (λ k. has (a .0) k || has (b .0) k))
 
 -- the permissions of the first set that the second lacks
 abbrev pub without : Perms → Perms → Perms
-without a b = perms (bitAnd (a .0) (255 - b .0))
+without a b = perms (setOf 8 (λ k. has (a .0) k && not (has (b .0) k)))
 
--- every permission of the first set is in the second
+-- every permission of the first set is in the second: it has none that the second lacks
 abbrev pub within : Perms → Perms → Bool
-within a b = eqb (bitAnd (b .0) (a .0)) (a .0)
+within a b = eqb (without a b .0) 0

@@ -1,11 +1,11 @@
 -- What a PERMS word says.
-use Prim.Native.Nat.{ℕ, _+_}
+use Prim.Native.Nat.{ℕ}
 use Prim.Native.Char.{code}
 use mathlib.Core.List.{List, [], _∷_}
 use mathlib.Core.Bool.{Bool, true, false, not, _&&_, _||_}
 use lib.ListN.{getD, take, drop}
 use lib.Dec.{eqb}
-use Rattle.scan.specs.Bytes.{bytes, same, holds, every, run}
+use Rattle.scan.specs.Bytes.{bytes, same, holds, every, run, if_then_else_}
 use Rattle.perms.specs.Sets.{setOf, perms}
 use Rattle.modes.specs.Modes.{modes, modeIn}
 use Rattle.perms.specs.declared.Perms.{Perms}
@@ -26,15 +26,14 @@ permLetter b = holds b (take 6 letters)
 abbrev pub other : ℕ → Bool
 other b = not (permLetter b)
 
--- the mode part of a word: from the first byte that is no letter on, up to the next letter
-abbrev pub modeStart : List ℕ → ℕ
-modeStart w = run permLetter w
+-- a word without the letters at its end
+unfoldable pub beforeLetters : List ℕ → List ℕ
+beforeLetters [] = []
+beforeLetters (b ∷ w) = if every permLetter (b ∷ w) then [] else b ∷ beforeLetters w
 
-abbrev pub modeEnd : List ℕ → ℕ
-modeEnd w = modeStart w + run other (drop (modeStart w) w)
-
+-- a word is letters, a mode or none, and letters: what is left of it without the letters at its front and at its end
 abbrev pub modePart : List ℕ → List ℕ
-modePart w = drop (modeStart w) (take (modeEnd w) w)
+modePart w = beforeLetters (drop (run permLetter w) w)
 
 -- the permissions that a word carries: those whose letters it holds, every mode ending in x;
 -- "a rule with w carries a as well, allowing or denying"
@@ -56,7 +55,4 @@ withMode false p (b ∷ m) = named p (modeIn modes (b ∷ m))
 unfoldable pub wordOf : Bool → List ℕ → Word
 wordOf deny [] = Bad
 wordOf deny (b ∷ w) =
-    elim (every permLetter (drop (modeEnd (b ∷ w)) (b ∷ w)) && not (holds (code "w") (b ∷ w) && holds (code "a") (b ∷ w))) [
-      | true ↦ withMode deny (perms (carried (b ∷ w))) (modePart (b ∷ w))
-      | false ↦ Bad
-    ]
+    if holds (code "w") (b ∷ w) && holds (code "a") (b ∷ w) then Bad else withMode deny (perms (carried (b ∷ w))) (modePart (b ∷ w))

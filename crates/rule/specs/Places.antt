@@ -4,14 +4,11 @@ use mathlib.Core.Path.{_≡_}
 use mathlib.Core.List.{List}
 use mathlib.Core.Bool.{false}
 use Rattle.scan.specs.Bytes.{bytes, if_then_else_}
-use Rattle.text.specs.Reading.{Reading, Read}
-use Rattle.text.specs.Places.{refusedBy, spanOf}
-use Rattle.tokens.specs.Tokens.{Token, noStop, tokenAt}
-use Rattle.tokens.specs.Places.{seen, tokenOf}
+use Rattle.text.specs.Places.{spanOf}
+use Rattle.tokens.specs.Tokens.{noStop, tokenAt}
+use Rattle.tokens.specs.Places.{seen}
 use Rattle.rule.specs.Rules.{Rule, Optional, Qualifiers, optional, qualifiersAt}
 use Rattle.rule.specs.declared as code
-use Rattle.rule.specs.declared.Got.{Got}
-use Rattle.rule.specs.declared.Got.the-variants as got
 
 -- deny, unless allow stands there
 abbrev pub denyAfter : List ℕ → Optional → Optional
@@ -51,8 +48,3 @@ pub record Denied (s : List ℕ) (allow o : code.Optional.Optional) : Type 0 whe
 pub record Qualified (s : List ℕ) (at : ℕ) (q : code.Qualifiers.Qualifiers) : Type 0 where
   pub is : seenQualifiers q ≡ qualifiersAt s at
   pub token : seen s (q .token) ≡ tokenAt noStop s (q .next .0)
-
--- what was read, or the refusal
-unfoldable pub seenGot : List ℕ → Got → Reading Token
-seenGot s (got.Token t) = Read (tokenOf s t)
-seenGot s (got.Refused stop) = refusedBy stop

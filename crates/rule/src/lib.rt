@@ -4,14 +4,12 @@ use perms::Perms;
 use text::NOT_TAKEN;
 use text::Place;
 use text::Span;
-use text::Stop;
 use tokens::Read;
-use tokens::Token;
 ghost use mathlib.Core.Path.{_≡_};
-ghost use Rattle.tokens.specs.Tokens.{noStop, tokenAt};
+ghost use Rattle.tokens.specs.Tokens.{noStop, tokenAt, wanted};
 ghost use Rattle.tokens.specs.Places.{seen};
 ghost use Rattle.rule.specs.Rules.{patternFrom};
-ghost use Rattle.rule.specs.Places.{Denied, Qualified, Taken, seenGot, seenQualifiers};
+ghost use Rattle.rule.specs.Places.{Denied, Qualified, Taken, seenQualifiers};
 
 // ---- a rule
 
@@ -116,33 +114,27 @@ pub fn qualifiers_at(text: &[u8], at: Place) -> Qualifiers
 
 // ---- the pattern
 
-// A token, or the refusal.
-pub enum Got {
-    Token(Token),
-    Refused(Stop),
-}
-
 // The token of the pattern after the qualifiers.
-pub fn pattern_at(text: &[u8], q: Qualifiers) -> Got
-    ensures { λ r. ⌜ seenGot (now (text .entry)) r ≡ patternFrom (now (text .entry)) (seen (now (text .entry)) (q .token)) (seenQualifiers q) ⌝ }
+pub fn pattern_at(text: &[u8], q: Qualifiers) -> Read
+    ensures { λ r. ⌜ wanted (now (text .entry)) (seen (now (text .entry)) r) ≡ patternFrom (now (text .entry)) (seen (now (text .entry)) (q .token)) (seenQualifiers q) ⌝ }
 {
     let next = q.next;
     let token = q.token;
     if keywords::is_not_taken(text, next, true) {
-        return Got::Refused(Stop {
+        return Read::Stopped {
             number: NOT_TAKEN,
             place: blanks::standing_at(text, next),
-        });
+        };
     }
     let Read::Found(t) = token else {
-        return Got::Refused(tokens::stop_of(text, token));
+        return token;
     };
     if q.some & tokens::is_word(text, t, b"{") {
         let start = t.start;
-        return Got::Refused(Stop {
+        return Read::Stopped {
             number: NOT_TAKEN,
             place: start,
-        });
+        };
     }
-    Got::Token(t)
+    token
 }

@@ -15,7 +15,7 @@ use Rattle.pattern.specs.Codes.{decode}
 use Rattle.pattern.specs.Faults.{tooMany, rooted}
 use Rattle.pattern.proofs.Codes.{decode-byte, decode-place}
 use Rattle.sizes.specs.declared.Size.{Size}
-use Rattle.sizes.specs.Sizes.{overSize, rootedSize, Known, isNil, nilOrSlash, sizeOf, limitOf, timesOf, plusOf, noSize, nilSize}
+use Rattle.sizes.specs.Sizes.{overSize, rootedSize, isNil, nilOrSlash, sizeOf, limitOf, timesOf, plusOf, noSize, nilSize}
 use Rattle.sizes.proofs.Across.{length-across, nil-across, across-nil}
 use Rattle.sizes.proofs.Choices.{count-length}
 
@@ -237,11 +237,6 @@ slash-byte text b h = ap isSlash (sym (decode-byte text b h))
 
 pub slash-class : (text : List ℕ) (p : ℕ) → false ≡ isSlash (decode text (65536 + p))
 slash-class text p = ap isSlash (sym (decode-place text p))
-
--- ---- the variables of a table
-
-pub known-fewer : {text vars : List ℕ} {n k : ℕ} {sizes : List ℕ} → Known text vars n sizes → k ≤ min 32 n → Known text vars k sizes
-known-fewer p h = record { right = λ r l. p .right r (omega arith) }
 
 -- ---- what is refused, by the size
 

@@ -164,7 +164,7 @@ module _ (f : List ℕ → Numbered) (s : List ℕ) where
     pub items-all : Passed size (itemsFrom at) whole → length s ≤ at → size ≡ whole
     items-all p h = passed-all p (sizes-eq (items-last numbering f s at h))
 
-    -- what stands at a place has the size one, the literals from there to the end the size two
+    -- what stands at a place has the size one, the literals after it the size two
     module _ {one two both next : Size} (from end : ℕ) (e : end ≡ from + run ordinary (drop from s)) (l : two ≡ sizeOf (map Byte (span s from end) ∷ []))
         (b : both ≡ timesOf one two) (n : next ≡ timesOf size both) where
       pub parts-more : Passed size (partsFrom at) whole → at < length s → (p : Part) → p ≡ partAt s at → from ≡ partEnd s at →

@@ -1,7 +1,6 @@
 // One rule of a profile, or the } that ends it, read from a text.
 use modes::Transition;
 use perms::Perms;
-use rule::Got;
 use rule::Qualifiers;
 use rule::Rule;
 use rule_tail::CommaRead;
@@ -10,7 +9,9 @@ use rule_tail::TargetRead;
 use text::Place;
 use text::Span;
 use text::Stop;
+use tokens::Read;
 use tokens::Token;
+use tokens::stop_of;
 ghost use mathlib.Core.Path.{_≡_};
 ghost use Rattle.tokens.specs.Places.{tokenOf};
 ghost use Rattle.faults.specs.Sized.{faultBy};
@@ -121,12 +122,13 @@ fn rule_here(
         return Step::Close { next: Place(i + 1) };
     }
     let q = rule::qualifiers_at(text, at);
-    match rule::pattern_at(text, q) {
-        Got::Refused(stop) => Step::Refused(stop),
-        Got::Token(t) => match rule_from(text, vars, n, sizes, profile, q, t) {
-            RuleRead::Refused(stop) => Step::Refused(stop),
-            RuleRead::Good { rule, next } => Step::Rule { rule, next },
-        },
+    let token = rule::pattern_at(text, q);
+    let Read::Found(t) = token else {
+        return Step::Refused(stop_of(text, token));
+    };
+    match rule_from(text, vars, n, sizes, profile, q, t) {
+        RuleRead::Refused(stop) => Step::Refused(stop),
+        RuleRead::Good { rule, next } => Step::Rule { rule, next },
     }
 }
 

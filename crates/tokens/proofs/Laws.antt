@@ -1,11 +1,12 @@
 -- What the definitions of tokens say at a place of a text.
-use Prim.Native.Nat.{ℕ, _+_, _≤_, _<_}
-use mathlib.Core.Path.{_≡_, refl, ap, _∙_}
+use Prim.Native.Nat.{ℕ, _+_, _-_, _≤_, _<_}
+use mathlib.Core.Path.{_≡_, refl, sym, ap, _∙_}
 use mathlib.Core.List.{List, [], _∷_}
 use mathlib.Core.Logic.{⊎-elim}
-use mathlib.Core.Bool.{true, false}
-use lib.ListN.{length, getD, drop, drop-of-length-le}
+use mathlib.Core.Bool.{Bool, true, false, false≢true}
+use lib.ListN.{length, getD, drop, drop-of-length-le, length-drop}
 use lib.Seq.{drop-cons, drop-drop}
+use lib.Dec.{eqb}
 use native.Mathlib.Numerals.{add-one}
 use native.Mathlib.Nat.{add-sub-cancel-left}
 use native.Mathlib.Omega.{arith}
@@ -13,9 +14,10 @@ use borrow.Author.Tests.{eq-eqb, ne-eqb}
 use types.Run.{OneOf}
 use denote.Enum.Declared
 use denote.Enum.Declared.{tagOf}
-use Rattle.scan.specs.Bytes.{begins, run, span}
+use Rattle.scan.specs.Bytes.{begins, run, span, if_then_else_}
 use Rattle.text.specs.Places.{refusedBy}
 use Rattle.blanks.specs.Blanks.{hash, nul, standing}
+use Rattle.blanks.proofs.Laws.{standing-inside}
 use Rattle.tokens.specs.Tokens.{Next, Found, Stopped, End, inQuotes, plain, plainToken, quote, quotedToken, tokenAt, tokenFrom, wanted}
 use Rattle.tokens.specs.Places.{seen, stopOf, tokenOf}
 use Rattle.tokens.specs.declared.Token as code
@@ -72,6 +74,32 @@ module _ (stop : ℕ) (s : List ℕ) where
           pub from-plain : (getD s p 0 ≡ stop → ⊥) → plainToken p (run (plain stop) (drop p s)) (drop p s) ≡ tokenFrom stop p (drop p s)
           unfolding tokenFrom
           from-plain k = rw (drop-cons s p 0, ne-eqb _ _ z, ne-eqb _ _ c, ne-eqb _ _ q, ne-eqb _ _ k, tokenFrom)
+
+-- End is told at the text's end and nowhere else, so it needs no place
+abbrev isEnd : Next → Bool
+isEnd (Found t) = false
+isEnd (Stopped n p) = false
+isEnd End = true
+
+either : (x : Bool) (a b : Next) → isEnd a ≡ false → isEnd b ≡ false → isEnd (if x then a else b) ≡ false
+either true a b e f = e
+either false a b e f = f
+
+not-end : (stop p b : ℕ) (s : List ℕ) → isEnd (tokenFrom stop p (b ∷ s)) ≡ false
+unfolding tokenFrom
+not-end stop p b s =
+    either (eqb b nul) _ _ refl
+    (either (eqb b hash) _ _ refl
+    (either (eqb b quote) _ _ (either (begins quote (drop (run inQuotes s) s)) _ _ refl refl)
+    (either (eqb b stop) _ _ refl (either (begins quote (drop (run (plain stop) (b ∷ s)) (b ∷ s))) _ _ refl refl))))
+
+pub end-place : (stop : ℕ) (s : List ℕ) (at : ℕ) → at ≤ length s → tokenAt stop s at ≡ End → standing s at ≡ length s
+unfolding tokenAt
+end-place stop s at h e = go (drop (standing s at) s) (length-drop (standing s at) s) e
+  where
+    go : (l : List ℕ) → length l ≡ length s - standing s at → tokenFrom stop (standing s at) l ≡ End → standing s at ≡ length s
+    go [] k q = omega (arith, standing-inside s at h)
+    go (b ∷ l) k q = absurd (false≢true (sym (not-end stop (standing s at) b l) ∙ ap isEnd q))
 
 -- two places with the same thing next have the same next token
 pub token-by : (stop : ℕ) (s : List ℕ) (a b : ℕ) → standing s a ≡ standing s b → tokenAt stop s a ≡ tokenAt stop s b

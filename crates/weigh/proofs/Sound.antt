@@ -3,13 +3,13 @@ use Prim.Native.Nat.{ℕ, zero, suc, _+_, _<_}
 use Prim.Native.Char.{code}
 use mathlib.Core.Path.{_≡_, refl, subst}
 use mathlib.Core.List.{List, [], _∷_}
-use mathlib.Core.Bool.{Bool, true, false, not, _||_, _&&_}
+use mathlib.Core.Bool.{Bool, true, false, _||_, _&&_}
 use lib.Dec.{eqb}
-use lib.ListN.{getD, drop}
-use Rattle.scan.specs.Bytes.{bytes, every, holds, same}
+use lib.ListN.{getD}
+use Rattle.scan.specs.Bytes.{bytes, every, holds, same, if_then_else_}
 use Rattle.perms.specs.Sets.{perms}
 use Rattle.modes.specs.Modes.{modes, modeIn}
-use Rattle.perms_word.specs.Words.{carried, letters, modeEnd, modePart, named, permLetter, withMode, wordOf}
+use Rattle.perms_word.specs.Words.{carried, letters, modePart, named, withMode, wordOf}
 use Rattle.perms.specs.declared.Perms.{Perms}
 use Rattle.modes.specs.declared.Transition.{Transition}
 use Rattle.modes.specs.declared.Transition.the-variants.{Absent, ByMode}
@@ -87,11 +87,11 @@ module _ (p : Perms) (h : p .0 < 128) where
 word-below : (deny : Bool) (w : List ℕ) → Below (wordOf deny w)
 unfolding wordOf
 word-below deny [] = tt
-word-below deny (b ∷ w) = go (every permLetter (drop (modeEnd (b ∷ w)) (b ∷ w)) && not (holds (code "w") (b ∷ w) && holds (code "a") (b ∷ w)))
+word-below deny (b ∷ w) = go (holds (code "w") (b ∷ w) && holds (code "a") (b ∷ w))
   where
-    go : (x : Bool) → Below (elim x as (λ _. Word) [ true ↦ withMode deny (perms (carried (b ∷ w))) (modePart (b ∷ w)) | false ↦ Bad ])
-    go true = mode-below (perms (carried (b ∷ w))) (carried-lt (b ∷ w)) deny (modePart (b ∷ w))
-    go false = tt
+    go : (x : Bool) → Below (if x then Bad else withMode deny (perms (carried (b ∷ w))) (modePart (b ∷ w)))
+    go true = tt
+    go false = mode-below (perms (carried (b ∷ w))) (carried-lt (b ∷ w)) deny (modePart (b ∷ w))
 
 abbrev Few : Permissions → Type 0
 Few p = p .perms .0 < 128

@@ -1,7 +1,6 @@
 use borrow.Author.Needs.{needs}
 use Prim.Native.Nat.{_+_, _-_, _≤_}
 use mathlib.Core.Path.{_≡_, sym, _∙_}
-use mathlib.Core.Bool.{false}
 use native.Mathlib.Omega.{arith}
 use denote.Ref.{now}
 use lib.ListN.{length, drop}
@@ -11,7 +10,7 @@ use Rattle.blanks.proofs.standing_at.Statement.{statement}
 use Rattle.blanks.proofs.standing_at.Tie as tie
 
 abbrev Inv-loop : tie.InvT-loop
-Inv-loop text i₀ i = i + skip false (drop i text) ≡ standing text i₀
+Inv-loop text i₀ i = i + skip 0 (drop i text) ≡ standing text i₀
 
 abbrev μ-loop : tie.MeasureT-loop
 μ-loop text i₀ i = length text - i

@@ -7,7 +7,9 @@ use Rattle.scan.specs.Bytes.{bytes}
 use Rattle.blanks.specs.Blanks.{standing}
 use Rattle.rule.specs.Rules.{bodyAt, endAt}
 use Rattle.rule.proofs.Laws.{pattern-from}
-use Rattle.rule.specs.Places.{seenGot, seenQualifiers}
+use Rattle.tokens.specs.Places.{seen}
+use Rattle.tokens.proofs.Laws.{no-token}
+use Rattle.rule.specs.Places.{seenQualifiers}
 use Rattle.body.specs.Places.{seenRules}
 use Rattle.blanks.proofs.Laws.{stands-inside}
 use borrow.Author.Needs.{needs}
@@ -40,19 +42,19 @@ qualifiers-at-requires c κs = search needs
 pattern-at-requires : tie.Need-pattern-at-requires
 pattern-at-requires c κs = search needs
 
-enum-known-stop : tie.Need-enum-known-stop
-enum-known-stop c = search needs
+enum-known-token : tie.Need-enum-known-token
+enum-known-token c = search needs
 
-enum-known-t : tie.Need-enum-known-t
-enum-known-t c = search needs
+stop-of-requires : tie.Need-stop-of-requires
+stop-of-requires c κs = search needs
 
 returns-2 : tie.Need-returns-2
-unfolding endAt bodyAt seenGot seenRules bytes
-returns-2 c = rw (← c .before .before .before .before .before .before .stands-at .ensures, c .before .before .before .before .before .if1 .left, ← c .before .before .before .before .qualifiers-at .ensures .is, ← pattern-from _ (seenQualifiers (c .before .before .before .before .qualifiers-at .result)) (c .before .before .before .before .qualifiers-at .ensures .token), ← c .before .before .before .pattern-at .ensures, c .before .stop .given .1, seenGot, bodyAt)
+unfolding endAt bodyAt seen seenRules bytes
+returns-2 c = rw (c .stop-of .ensures, ← c .before .before .before .before .before .stands-at .ensures, c .before .before .before .before .if1 .left, ← c .before .before .before .qualifiers-at .ensures .is, ← pattern-from _ (seenQualifiers (c .before .before .before .qualifiers-at .result)) (c .before .before .before .qualifiers-at .ensures .token), ← c .before .before .pattern-at .ensures, no-token (now (c .before .before .before .before .before .before .before .before .args .text)) (c .before .before .pattern-at .result) (c .before .match .keys2), bodyAt)
 
 returns-3 : tie.Need-returns-3
-unfolding endAt bodyAt seenGot seenRules bytes
-returns-3 c = rw (← c .before .before .before .before .before .before .before .stands-at .ensures, c .before .before .before .before .before .before .if1 .left, ← c .before .before .before .before .before .qualifiers-at .ensures .is, ← pattern-from _ (seenQualifiers (c .before .before .before .before .before .qualifiers-at .result)) (c .before .before .before .before .before .qualifiers-at .ensures .token), ← c .before .before .before .before .pattern-at .ensures, c .before .before .t .given .1, seenGot, bodyAt)
+unfolding endAt bodyAt seen seenRules bytes
+returns-3 c = rw (← c .before .before .before .before .before .before .before .stands-at .ensures, c .before .before .before .before .before .before .if1 .left, ← c .before .before .before .before .before .qualifiers-at .ensures .is, ← pattern-from _ (seenQualifiers (c .before .before .before .before .before .qualifiers-at .result)) (c .before .before .before .before .before .qualifiers-at .ensures .token), ← c .before .before .before .before .pattern-at .ensures, c .before .before .token .given .1, seen, bodyAt)
 
 pub rules-end-spec : {M : Type 1} → statement M
 rules-end-spec =
@@ -65,7 +67,7 @@ rules-end-spec =
     returns
     qualifiers-at-requires
     pattern-at-requires
-    enum-known-stop
-    enum-known-t
+    enum-known-token
+    stop-of-requires
     returns-2
     returns-3)

@@ -1,5 +1,5 @@
 use mathlib.Core.Path.{sym, ap, _∙_}
-use Rattle.perms.specs.Sets.{perms}
+use Rattle.perms.specs.Sets.{has, perms}
 use Rattle.perms_word.specs.Words.{carried, letters}
 use Rattle.scan.specs.Bytes.{some, bytes}
 use Rattle.perms_word.proofs.Words.{carried-other}
@@ -15,7 +15,7 @@ unfolding carried letters some bytes
 returns c = rw (c .match .keys1)
 
 returns-2 : tie.Need-returns-2
-unfolding carried letters some bytes
+unfolding carried letters some bytes has
 returns-2 c = c .union .ensures ∙ rw (c .before .match .keys2)
 
 returns-3 : tie.Need-returns-3

@@ -23,7 +23,7 @@ returns-2 c =
     let w = now (c .before .before .before .before .before .before .args .word) in
     let start = c .before .before .before .letters-end in
     let end = c .before .before .mode-end in
-    sym (word-tail (a .deny) w (start .result) (end .result) (start .ensures) (end .ensures) (λ e. c .if2 .taken (c .before .letters-end2 .ensures ∙ e)))
+    sym (word-tail (a .deny) w (start .result) (end .result) (start .ensures) (end .ensures) (c .before .before .before .before .if1 .left) (λ e. c .if2 .taken (c .before .letters-end2 .ensures ∙ e)))
 
 holds-byte-requires : tie.Need-holds-byte-requires
 holds-byte-requires c κs = search needs

@@ -1,24 +1,26 @@
 use borrow.Author.Needs.{needs}
 use mathlib.Core.Path.{_≡_, refl, sym, ap, _∙_}
-use Prim.Native.Nat.{_-_, _≤_}
+use Prim.Native.Nat.{_-_, _≤_, _<_}
+use mathlib.Core.Bool.{_||_}
 use native.Mathlib.Omega.{arith}
 use denote.Ref.{now}
 use lib.ListN.{length, drop}
 use lib.Bits.{bitOr}
-use Rattle.perms.specs.Sets.{perms}
+use Rattle.perms.specs.Sets.{has, perms}
 use Rattle.perms_word.specs.Words.{carried}
+use Rattle.perms.proofs.Laws.{or-unite, set-lt}
 use Rattle.perms_word.proofs.Words.{carried-more, carried-end}
 use Rattle.perms_word.proofs.set_of.Statement.{statement}
 use Rattle.perms_word.proofs.set_of.Tie as tie
 
 abbrev Inv-loop : tie.InvT-loop
-Inv-loop word set₀ i₀ set i = (i ≤ length word) × (bitOr (set .0) (carried (drop i word)) ≡ carried word)
+Inv-loop word set₀ i₀ set i = (i ≤ length word) × ((set .0 < 256) × (bitOr (set .0) (carried (drop i word)) ≡ carried word))
 
 abbrev μ-loop : tie.MeasureT-loop
 μ-loop word set₀ i₀ set i = length word - i
 
 loop-holds : tie.Need-loop-holds Inv-loop μ-loop
-loop-holds c = (omega arith, refl)
+loop-holds c = (omega arith, (omega arith, refl))
 
 shared-slice-read-permission-of : tie.Need-shared-slice-read-permission-of Inv-loop μ-loop
 shared-slice-read-permission-of c = search needs
@@ -39,13 +41,19 @@ loop-again : tie.Need-loop-again Inv-loop μ-loop
 loop-again c =
     let l = c .before .before .before .before .loop in
     let w = now (c .before .before .before .before .before .before .args .word) in
-    (omega arith, rw (c .union .ensures, c .before .permission-of .ensures) (carried-more (l .set .0) w (l .i) (omega arith) ∙ l .inv .1))
+    let p = c .before .permission-of .result in (
+      omega arith,
+      (
+        rw (c .union .ensures) (set-lt 8 (λ k. has (l .set .0) k || has (p .0) k)),
+        rw (c .union .ensures ∙ or-unite (l .set) p (l .inv .1 .0) (omega arith), c .before .permission-of .ensures) (carried-more (l .set .0) w (l .i) (omega arith) ∙ l .inv .1 .1),
+      ),
+    )
 
 returns : tie.Need-returns Inv-loop μ-loop
 returns c =
     let l = c .before .loop in
     let w = now (c .before .before .before .args .word) in
-    ap perms (sym (carried-end (l .set .0) w (l .i) (omega arith)) ∙ l .inv .1)
+    ap perms (sym (carried-end (l .set .0) w (l .i) (omega arith)) ∙ l .inv .1 .1)
 
 pub set-of-spec : {M : Type 1} → statement M
 set-of-spec =

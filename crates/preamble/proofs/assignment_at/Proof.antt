@@ -1,12 +1,8 @@
 use denote.Ref.{now}
-use mathlib.Core.Path.{_≡_, sym, ap, _∙_}
-use Prim.Native.Char.{code}
-use Rattle.scan.specs.Bytes.{bytes}
+use mathlib.Core.Path.{sym, ap, _∙_}
 use Rattle.scan.proofs.Laws.{begins-lt}
 use Rattle.text.specs.Places.{refusedBy}
 use Rattle.tokens.proofs.Laws.{no-token}
-use Rattle.tokens.specs.Tokens.{tokenAt}
-use Rattle.tokens.specs.Places.{seen}
 use Rattle.tokens.specs.declared.Read.the-variants as read
 use Rattle.pattern.specs.Table.{env}
 use Rattle.preamble.specs.Variables.{variableForm}

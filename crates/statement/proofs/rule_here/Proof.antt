@@ -7,7 +7,9 @@ use Rattle.scan.specs.Bytes.{bytes}
 use Rattle.blanks.specs.Blanks.{standing}
 use Rattle.rule.specs.Rules.{bodyAt, ruleAt}
 use Rattle.rule.proofs.Laws.{pattern-from}
-use Rattle.rule.specs.Places.{seenGot, seenQualifiers}
+use Rattle.tokens.specs.Places.{seen}
+use Rattle.tokens.proofs.Laws.{no-token}
+use Rattle.rule.specs.Places.{seenQualifiers}
 use Rattle.statement.specs.Places.{seenRule, seenStep}
 use Rattle.blanks.proofs.Laws.{stands-inside}
 use borrow.Author.Needs.{needs}
@@ -40,32 +42,32 @@ qualifiers-at-requires c κs = search needs
 pattern-at-requires : tie.Need-pattern-at-requires
 pattern-at-requires c κs = search needs
 
-enum-known-stop : tie.Need-enum-known-stop
-enum-known-stop c = search needs
+enum-known-token : tie.Need-enum-known-token
+enum-known-token c = search needs
 
-enum-known-t : tie.Need-enum-known-t
-enum-known-t c = search needs
+stop-of-requires : tie.Need-stop-of-requires
+stop-of-requires c κs = search needs
+
+returns-2 : tie.Need-returns-2
+unfolding ruleAt bodyAt seen seenStep bytes
+returns-2 c = (rw (c .stop-of .ensures, ← c .before .before .before .before .before .stands-at .ensures, c .before .before .before .before .if1 .left, ← c .before .before .before .qualifiers-at .ensures .is, ← pattern-from _ (seenQualifiers (c .before .before .before .qualifiers-at .result)) (c .before .before .before .qualifiers-at .ensures .token), ← c .before .before .pattern-at .ensures, no-token (now (c .before .before .before .before .before .before .before .before .args .text)) (c .before .before .pattern-at .result) (c .before .match .keys2), bodyAt), refl)
 
 rule-from-requires : tie.Need-rule-from-requires
 rule-from-requires c κs = search needs
 
-enum-known-stop-2 : tie.Need-enum-known-stop-2
-enum-known-stop-2 c = search needs
+enum-known-stop : tie.Need-enum-known-stop
+enum-known-stop c = search needs
 
 enum-known-rule : tie.Need-enum-known-rule
 enum-known-rule c = search needs
 
-returns-2 : tie.Need-returns-2
-unfolding ruleAt bodyAt seenGot seenStep bytes
-returns-2 c = (rw (← c .before .before .before .before .before .before .stands-at .ensures, c .before .before .before .before .before .if1 .left, ← c .before .before .before .before .qualifiers-at .ensures .is, ← pattern-from _ (seenQualifiers (c .before .before .before .before .qualifiers-at .result)) (c .before .before .before .before .qualifiers-at .ensures .token), ← c .before .before .before .pattern-at .ensures, c .before .stop .given .1, seenGot, bodyAt), refl)
-
 returns-3 : tie.Need-returns-3
-unfolding ruleAt bodyAt seenGot seenRule seenStep bytes
-returns-3 c = (rw (← c .before .before .before .before .before .before .before .before .before .before .stands-at .ensures, c .before .before .before .before .before .before .before .before .before .if1 .left, ← c .before .before .before .before .before .before .before .before .qualifiers-at .ensures .is, ← pattern-from _ (seenQualifiers (c .before .before .before .before .before .before .before .before .qualifiers-at .result)) (c .before .before .before .before .before .before .before .before .qualifiers-at .ensures .token), ← c .before .before .before .before .before .before .before .pattern-at .ensures, c .before .before .before .before .before .t .given .1, seenGot, ← c .before .before .before .rule-from .ensures .0, c .before .stop2 .given .1, seenRule, bodyAt), refl)
+unfolding ruleAt bodyAt seen seenRule seenStep bytes
+returns-3 c = (rw (← c .before .before .before .before .before .before .before .before .before .before .stands-at .ensures, c .before .before .before .before .before .before .before .before .before .if1 .left, ← c .before .before .before .before .before .before .before .before .qualifiers-at .ensures .is, ← pattern-from _ (seenQualifiers (c .before .before .before .before .before .before .before .before .qualifiers-at .result)) (c .before .before .before .before .before .before .before .before .qualifiers-at .ensures .token), ← c .before .before .before .before .before .before .before .pattern-at .ensures, c .before .before .before .before .before .token .given .1, seen, ← c .before .before .before .rule-from .ensures .0, c .before .stop .given .1, seenRule, bodyAt), refl)
 
 returns-4 : tie.Need-returns-4
-unfolding ruleAt bodyAt seenGot seenRule seenStep bytes
-returns-4 c = (rw (← c .before .before .before .before .before .before .before .before .before .before .stands-at .ensures, c .before .before .before .before .before .before .before .before .before .if1 .left, ← c .before .before .before .before .before .before .before .before .qualifiers-at .ensures .is, ← pattern-from _ (seenQualifiers (c .before .before .before .before .before .before .before .before .qualifiers-at .result)) (c .before .before .before .before .before .before .before .before .qualifiers-at .ensures .token), ← c .before .before .before .before .before .before .before .pattern-at .ensures, c .before .before .before .before .before .t .given .1, seenGot, ← c .before .before .before .rule-from .ensures .0, c .before .rule .given .1, seenRule, bodyAt), rw (c .before .rule .given .1) at (c .before .before .before .rule-from .ensures .1))
+unfolding ruleAt bodyAt seen seenRule seenStep bytes
+returns-4 c = (rw (← c .before .before .before .before .before .before .before .before .before .before .stands-at .ensures, c .before .before .before .before .before .before .before .before .before .if1 .left, ← c .before .before .before .before .before .before .before .before .qualifiers-at .ensures .is, ← pattern-from _ (seenQualifiers (c .before .before .before .before .before .before .before .before .qualifiers-at .result)) (c .before .before .before .before .before .before .before .before .qualifiers-at .ensures .token), ← c .before .before .before .before .before .before .before .pattern-at .ensures, c .before .before .before .before .before .token .given .1, seen, ← c .before .before .before .rule-from .ensures .0, c .before .rule .given .1, seenRule, bodyAt), rw (c .before .rule .given .1) at (c .before .before .before .rule-from .ensures .1))
 
 pub rule-here-spec : {M : Type 1} → statement M
 rule-here-spec =
@@ -78,11 +80,11 @@ rule-here-spec =
     returns
     qualifiers-at-requires
     pattern-at-requires
-    enum-known-stop
-    enum-known-t
-    rule-from-requires
-    enum-known-stop-2
-    enum-known-rule
+    enum-known-token
+    stop-of-requires
     returns-2
+    rule-from-requires
+    enum-known-stop
+    enum-known-rule
     returns-3
     returns-4)
