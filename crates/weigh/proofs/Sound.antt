@@ -6,7 +6,7 @@ use mathlib.Core.List.{List, [], _∷_}
 use mathlib.Core.Bool.{Bool, true, false, _||_, _&&_}
 use lib.Dec.{eqb}
 use lib.ListN.{getD}
-use Rattle.scan.specs.Bytes.{bytes, every, holds, same}
+use Rattle.scan.specs.Bytes.{bytes, every, holds, same, if_then_else_}
 use Rattle.perms.specs.Sets.{perms}
 use Rattle.modes.specs.Modes.{modes, modeIn}
 use Rattle.perms_word.specs.Words.{carried, letters, modePart, named, withMode, wordOf}
