@@ -6,14 +6,14 @@ use mathlib.Core.Path.{_≡_, refl, sym, ap, _∙_}
 use mathlib.Core.List.{List, [], _∷_, _++_}
 use mathlib.Core.Bool.{Bool, true, false, not, _||_, _&&_, and-false, and-true, or-false}
 use native.Mathlib.Omega.{arith}
-use lib.ListN.{length, getD, drop}
+use lib.ListN.{length, getD}
 use lib.Dec.{eqb, ltb}
-use Rattle.scan.specs.Bytes.{bytes, same, holds, every, some}
+use Rattle.scan.specs.Bytes.{bytes, same, holds, every, some, if_then_else_}
 use Rattle.scan.proofs.Laws.{same-self}
 use Rattle.perms.specs.Sets.{setOf, perms}
 use Rattle.perms.specs.declared.Perms.{Perms}
 use Rattle.modes.specs.declared.Transition.{Transition}
-use Rattle.perms_word.specs.Words.{letters, permLetter, modePart, modeEnd, carried, withMode, wordOf}
+use Rattle.perms_word.specs.Words.{letters, carried, withMode, wordOf}
 use Rattle.perms_word.specs.declared.Word.{Word}
 use Rattle.perms_word.specs.declared.Word.the-variants.{Carries, Bad}
 use Rattle.text.specs.Reading.{Reading, Read, Refused, _>>=_, refuseIf, judged}
@@ -120,11 +120,11 @@ module _ (s : List ℕ) (at : ℕ) where
 word-says : (deny : Bool) (w : List ℕ) (p : Perms) (tr : Transition) → wordOf deny w ≡ Carries p tr → says deny w ≡ Carries p tr
 unfolding wordOf
 word-says deny [] p tr e = let z : _≡_ {A = ℕ} 0 1 = cc in absurd (omega arith)
-word-says deny (b ∷ w) p tr e = go (every permLetter (drop (modeEnd (b ∷ w)) (b ∷ w)) && not (holds (code "w") (b ∷ w) && holds (code "a") (b ∷ w))) e
+word-says deny (b ∷ w) p tr e = go (holds (code "w") (b ∷ w) && holds (code "a") (b ∷ w)) e
   where
-    go : (good : Bool) → (elim good as (λ _. Word) [ true ↦ says deny (b ∷ w) | false ↦ Bad ]) ≡ Carries p tr → says deny (b ∷ w) ≡ Carries p tr
-    go true q = q
-    go false q = let z : _≡_ {A = ℕ} 0 1 = cc in absurd (omega arith)
+    go : (both : Bool) → (if both then Bad else says deny (b ∷ w)) ≡ Carries p tr → says deny (b ∷ w) ≡ Carries p tr
+    go true q = let z : _≡_ {A = ℕ} 0 1 = cc in absurd (omega arith)
+    go false q = q
 
 -- PERMS as read and as written
 record PermsSaid (deny : Bool) (s : List ℕ) (at : ℕ) (p : Permissions) : Type 0 where
