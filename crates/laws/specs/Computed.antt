@@ -12,7 +12,7 @@ use Rattle.matcher.specs.Match.{matches, matchesSome, matchesExactly}
 use Rattle.pattern.specs.Expansions.{isSet, ofParts, oneOf, ofName, ofItems, across, expansions, count, longest, joinedAfter}
 use Rattle.pattern.specs.Faults.{tooMany, rooted, valueFault, patternFault}
 use Rattle.pattern.specs.Items.{before, afterComma, item, reach, items, valueForm, patternForm, valueNames, patternNames}
-use Rattle.pattern.specs.Pieces.{upTo, extra, part, parts}
+use Rattle.pattern.specs.Pieces.{upTo, starting, extra, part, parts}
 use Rattle.modes.specs.Modes.{modeIn, sameMode}
 use Rattle.perms.specs.Sets.{has}
 use Rattle.perms_word.specs.Words.{letters, beforeLetters, carried, withMode, wordOf}
@@ -31,5 +31,5 @@ use Rattle.keywords.specs.Keywords.{notTaken}
 use Rattle.answer.specs.declared.Answer.{Answer}
 
 unfoldable pub computed : (text name path : List ℕ) (asked : ℕ) (owner : Bool) → Answer
-unfolding bytes every some same run has modeIn letters beforeLetters carried withMode wordOf feeds lineOf includes skip tokenFrom tokenAt notTaken ranges goodClass listed inClass upTo extra part parts before afterComma item reach items valueForm patternForm valueNames patternNames isSet ofParts oneOf ofName ofItems across expansions count longest joinedAfter tooMany rooted valueFault patternFault matches matchesSome matchesExactly nameForm variableForm valuesOf setBefore extended assigned finalSets valuesAt operatorFrom afterName assignmentAt preambleAt optional qualifiersAt patternFrom patternAt permsAt targetAt commaAt ruleEnd ruleFrom bodyAt ruleAt endAt rulesAt nameAt openAt headAt profileAt unlessEnd profilesAt fileOf applies those all bits moves findings choice moveOf executeOf grants records answerFrom doubled badPath answerIn answerOf sameMode
+unfolding bytes every some same run has modeIn letters beforeLetters carried withMode wordOf feeds lineOf includes skip tokenFrom tokenAt notTaken ranges goodClass listed inClass upTo starting extra part parts before afterComma item reach items valueForm patternForm valueNames patternNames isSet ofParts oneOf ofName ofItems across expansions count longest joinedAfter tooMany rooted valueFault patternFault matches matchesSome matchesExactly nameForm variableForm valuesOf setBefore extended assigned finalSets valuesAt operatorFrom afterName assignmentAt preambleAt optional qualifiersAt patternFrom patternAt permsAt targetAt commaAt ruleEnd ruleFrom bodyAt ruleAt endAt rulesAt nameAt openAt headAt profileAt unlessEnd profilesAt fileOf applies those all bits moves findings choice moveOf executeOf grants records answerFrom doubled badPath answerIn answerOf sameMode
 computed = answerOf

@@ -14,7 +14,7 @@ use native.Mathlib.Omega.{arith}
 use Rattle.scan.specs.Bytes.{begins, run, same, some, span, if_then_else_}
 use Rattle.scan.proofs.Laws.{run-take, drop-span, span-span}
 use Rattle.class.specs.Class.{goodClass}
-use Rattle.pattern.specs.Pieces.{Byte, One, Star, StarStar, Class, Part, Is, Use, Bad, upTo, extra, escaped, classPart, usePart, part, parts}
+use Rattle.pattern.specs.Pieces.{Byte, One, Star, StarStar, Class, Part, Is, Use, Bad, Start, start, starting, upTo, extra, escaped, classPart, usePart, part, parts}
 use Rattle.pattern.specs.Items.{Item, Single, Among, before, body, isClosed, afterComma, alternatives, item, reach, items}
 use Rattle.pattern.specs.Codes.{bracketed, decode, notClose}
 use Rattle.pattern.proofs.Codes.{decode-byte, decode-one, decode-star, decode-stars, decode-place}
@@ -42,14 +42,44 @@ begins-le : (c : ℕ) (s : List ℕ) → begins c s ≡ true → 1 ≤ length s
 begins-le c [] e = let z : _≡_ {A = ℕ} 0 1 = cc in absurd (omega arith)
 begins-le c (b ∷ s) e = omega arith
 
+-- how many bytes belong to a part, by the tests that matter
+abbrev pub extraBy : ℕ → List ℕ → ℕ
+extraBy b s =
+    if eqb b (code "\\") then length (take 1 s)
+    else if eqb b (code "*") then (if begins (code "*") s then 1 else 0)
+    else if eqb b (code "[") then upTo (code "]") s
+    else if eqb b (code "@") && begins (code "{") s then upTo (code "}") s
+    else 0
+
+more-if : (x : Bool) (a b : Start) (m n : ℕ) → a .more ≡ m → b .more ≡ n → (if x then a else b) .more ≡ (if x then m else n)
+more-if true a b m n e f = e
+more-if false a b m n e f = f
+
+pub extra-by : (b : ℕ) (s : List ℕ) → extra b s ≡ extraBy b s
+unfolding extra starting
+extra-by b s = one (eqb b (code "?")) refl
+  where
+    none : (x : Bool) → (if x then start Bad 0 else start (Is (Byte b)) 0) .more ≡ 0
+    none true = refl
+    none false = refl
+
+    one : (x : Bool) → eqb b (code "?") ≡ x → extra b s ≡ extraBy b s
+    one true e = rw (eqb-true b (code "?") e)
+    one false e =
+        rw (e, extra, starting)
+        (more-if (eqb b (code "\\")) _ _ _ _ refl
+        (more-if (eqb b (code "*")) _ _ _ _ (more-if (begins (code "*") s) _ _ _ _ refl refl)
+        (more-if (eqb b (code "[")) _ _ _ _ refl
+        (more-if (eqb b (code "@") && begins (code "{") s) _ _ _ _ refl (none (lone b))))))
+
 pub extra-le : (b : ℕ) (s : List ℕ) → extra b s ≤ length s
-unfolding extra
 extra-le b s =
-    if-le (eqb b (code "\\")) _ _ (length s) (λ _. omega (arith, length-take 1 s))
+    rw (extra-by b s)
+    (if-le (eqb b (code "\\")) _ _ (length s) (λ _. omega (arith, length-take 1 s))
     (λ _. if-le (eqb b (code "*")) _ _ (length s) (λ _. if-le (begins (code "*") s) 1 0 (length s) (begins-le (code "*") s) (λ _. omega arith))
     (λ _. if-le (eqb b (code "[")) _ _ (length s) (λ _. upTo-le (code "]") s)
     (λ _. if-le (eqb b (code "@") && begins (code "{") s) _ _ (length s) (λ _. upTo-le (code "}") s)
-    (λ _. omega arith))))
+    (λ _. omega arith)))))
 
 module _ (s : List ℕ) (i : ℕ) where
   pub partEnd-in : i < length s → partEnd s i ≡ i + 1 + extra (getD s i 0) (drop (i + 1) s)
@@ -313,14 +343,14 @@ class-read text s c a e i n x q u z d g =
 
 module _ (s : List ℕ) (i : ℕ) (h : i < length s) where
   pub class-at : getD s i 0 ≡ code "[" → partAt s i ≡ classAfter (drop (i + 1) s)
-  unfolding part
+  unfolding part starting
   class-at e =
       let b = getD s i 0 in
       partAt-in s i h
-      ∙ rw (ne-eqb b (code "\\") (λ q. omega arith), ne-eqb b (code "?") (λ q. omega arith), ne-eqb b (code "*") (λ q. omega arith), eq-eqb _ _ e, part)
+      ∙ rw (ne-eqb b (code "\\") (λ q. omega arith), ne-eqb b (code "?") (λ q. omega arith), ne-eqb b (code "*") (λ q. omega arith), eq-eqb _ _ e, part, starting)
 
   pub use-at : (eqb (getD s i 0) (code "@") && begins (code "{") (drop (i + 1) s)) ≡ true → partAt s i ≡ useAfter (drop (i + 1) s)
-  unfolding part
+  unfolding part starting
   use-at e =
       let b = getD s i 0 in
       let g : b ≡ code "@" = at (eqb b (code "@")) refl e in
@@ -332,6 +362,7 @@ module _ (s : List ℕ) (i : ℕ) (h : i < length s) where
         ne-eqb b (code "[") (λ q. omega arith),
         e,
         part,
+        starting,
       )
     where
       at : (x : Bool) → eqb (getD s i 0) (code "@") ≡ x → (x && begins (code "{") (drop (i + 1) s)) ≡ true → getD s i 0 ≡ code "@"
@@ -340,9 +371,9 @@ module _ (s : List ℕ) (i : ℕ) (h : i < length s) where
 
   module _ (text : List ℕ) (bytes : (k : ℕ) → getD s k 0 < 256) where
     pub escape-read : getD s i 0 ≡ code "\\" → Seen text (escapeOf (drop (i + 1) s)) (partAt s i)
-    unfolding part
+    unfolding part starting
     escape-read e =
-        let f : partAt s i ≡ escaped (drop (i + 1) s) = partAt-in s i h ∙ rw (eq-eqb _ _ e, part) in
+        let f : partAt s i ≡ escaped (drop (i + 1) s) = partAt-in s i h ∙ rw (eq-eqb _ _ e, part, starting) in
         rw f (go (drop (i + 1) s) (λ k. rw (getD-drop (i + 1) s k 0) (bytes (i + 1 + k))))
       where
         go : (l : List ℕ) → ((k : ℕ) → getD l k 0 < 256) → Seen text (escapeOf l) (escaped l)
@@ -350,29 +381,29 @@ module _ (s : List ℕ) (i : ℕ) (h : i < length s) where
         go (c ∷ l) k = record { is = ap Is (decode-byte text c (k 0)); fits = omega (arith, k 0) }
 
     pub star-read : getD s i 0 ≡ code "*" → Seen text (read.Is (starOf (drop (i + 1) s))) (partAt s i)
-    unfolding part
+    unfolding part starting
     star-read e =
         let b = getD s i 0 in
-        let f : partAt s i ≡ Is (if begins (code "*") (drop (i + 1) s) then StarStar else Star) =
-        partAt-in s i h ∙ rw (ne-eqb b (code "\\") (λ q. omega arith), ne-eqb b (code "?") (λ q. omega arith), eq-eqb _ _ e, part) in
+        let f : partAt s i ≡ (if begins (code "*") (drop (i + 1) s) then start (Is StarStar) 1 else start (Is Star) 0) .is =
+        partAt-in s i h ∙ rw (ne-eqb b (code "\\") (λ q. omega arith), ne-eqb b (code "?") (λ q. omega arith), eq-eqb _ _ e, part, starting) in
         rw f (go (begins (code "*") (drop (i + 1) s)))
       where
-        go : (x : Bool) → Seen text (read.Is (if x then piece.StarStar else piece.Star)) (Is (if x then StarStar else Star))
+        go : (x : Bool) → Seen text (read.Is (if x then piece.StarStar else piece.Star)) ((if x then start (Is StarStar) 1 else start (Is Star) 0) .is)
         go true = record { is = ap Is (decode-stars text); fits = omega arith }
         go false = record { is = ap Is (decode-star text); fits = omega arith }
 
     pub single-read : (getD s i 0 ≡ code "\\" → ⊥) → (getD s i 0 ≡ code "*" → ⊥) → (getD s i 0 ≡ code "[" → ⊥) →
         (eqb (getD s i 0) (code "@") && begins (code "{") (drop (i + 1) s)) ≡ false → Seen text (singleOf (getD s i 0)) (partAt s i)
-    unfolding part
+    unfolding part starting
     single-read k l m e =
         let b = getD s i 0 in
-        let f : partAt s i ≡ (if eqb b (code "?") then Is One else if lone b then Bad else Is (Byte b)) =
-        partAt-in s i h ∙ rw (ne-eqb _ _ k, ne-eqb _ _ l, ne-eqb _ _ m, e, part) in
+        let f : partAt s i ≡ (if eqb b (code "?") then start (Is One) 0 else if lone b then start Bad 0 else start (Is (Byte b)) 0) .is =
+        partAt-in s i h ∙ rw (ne-eqb _ _ k, ne-eqb _ _ l, ne-eqb _ _ m, e, part, starting) in
         rw f (go (eqb b (code "?")) (lone b))
       where
         go : (x y : Bool) →
             Seen text (if x then read.Is piece.One else if y then read.Bad else read.Is (piece.Byte (getD s i 0)))
-            (if x then Is One else if y then Bad else Is (Byte (getD s i 0)))
+            ((if x then start (Is One) 0 else if y then start Bad 0 else start (Is (Byte (getD s i 0))) 0) .is)
         go true y = record { is = ap Is (decode-one text); fits = omega arith }
         go false true = record { is = refl; fits = omega arith }
         go false false = record { is = ap Is (decode-byte text (getD s i 0) (bytes i)); fits = omega (arith, bytes i) }

@@ -7,9 +7,10 @@ use Prim.Native.Char.{code}
 use lib.ListN.{take, drop}
 use lib.Dec.{eqb}
 use Rattle.scan.specs.Bytes.{run}
-use Rattle.pattern.specs.Pieces.{Part, Byte, Is, part, extra, parts}
+use Rattle.pattern.specs.Pieces.{Part, Byte, Is, starting, part, extra, parts}
 use Rattle.pattern.specs.Items.{Item, Single, item, reach, items}
 use Rattle.pattern.specs.Literals.{special, ordinary}
+use Rattle.pattern.proofs.Laws.{extra-by}
 
 or-left : (a b : Bool) → (a || b) ≡ false → a ≡ false
 or-left false b e = refl
@@ -60,12 +61,11 @@ ordinary-is b e =
 
 module _ (b : ℕ) (s : List ℕ) (e : special b ≡ false) where
   part-ordinary : part b s ≡ Is (Byte b)
-  unfolding part
-  part-ordinary = let p = ordinary-is b e in rw (p .escape, p .one, p .star, p .bracket, p .at, p .closing, p .brace, p .ending, p .caret)
+  unfolding part starting
+  part-ordinary = let p = ordinary-is b e in rw (p .escape, p .one, p .star, p .bracket, p .at, p .closing, p .brace, p .ending, p .caret, part, starting)
 
   extra-ordinary : extra b s ≡ 0
-  unfolding extra
-  extra-ordinary = let p = ordinary-is b e in rw (p .escape, p .star, p .bracket, p .at)
+  extra-ordinary = let p = ordinary-is b e in rw (extra-by b s, p .escape, p .star, p .bracket, p .at)
 
   item-ordinary : item b s ≡ Single (Is (Byte b))
   unfolding item

@@ -28,15 +28,6 @@ pub data Part : Type 0 where
 unfoldable pub upTo : ℕ → List ℕ → ℕ
 upTo c s = if ltb (run (λ b. not (eqb b c)) s) (length s) then suc (run (λ b. not (eqb b c)) s) else 0
 
--- how many bytes s that follow b belong to the part that starts with b
-unfoldable pub extra : ℕ → List ℕ → ℕ
-extra b s =
-    if eqb b (code "\\") then length (take 1 s)
-    else if eqb b (code "*") then (if begins (code "*") s then 1 else 0)
-    else if eqb b (code "[") then upTo (code "]") s
-    else if eqb b (code "@") && begins (code "{") s then upTo (code "}") s
-    else 0
-
 -- "\ makes the next byte literal; at the end it is refused"
 abbrev pub escaped : List ℕ → Part
 escaped [] = Bad
@@ -52,17 +43,31 @@ abbrev pub usePart : List ℕ → ℕ → Part
 usePart s zero = Bad
 usePart s (suc n) = Use (take (n - 1) (drop 1 s))
 
+-- a part, and how many bytes after its first belong to it
+pub record Start : Type 0 where
+  pub is : Part
+  pub more : ℕ
+
+abbrev pub start : Part → ℕ → Start
+start p n = record { is = p; more = n }
+
 -- the part that starts with b, where s follows; "an unmatched bracket or brace, and ^ outside a class are 7.
 -- @ without { is literal, and so is a comma outside braces."
+unfoldable pub starting : ℕ → List ℕ → Start
+starting b s =
+    if eqb b (code "\\") then start (escaped s) (length (take 1 s))
+    else if eqb b (code "?") then start (Is One) 0
+    else if eqb b (code "*") then (if begins (code "*") s then start (Is StarStar) 1 else start (Is Star) 0)
+    else if eqb b (code "[") then start (classPart s (upTo (code "]") s)) (upTo (code "]") s)
+    else if eqb b (code "@") && begins (code "{") s then start (usePart s (upTo (code "}") s)) (upTo (code "}") s)
+    else if eqb b (code "]") || eqb b (code "{") || eqb b (code "}") || eqb b (code "^") then start Bad 0
+    else start (Is (Byte b)) 0
+
 unfoldable pub part : ℕ → List ℕ → Part
-part b s =
-    if eqb b (code "\\") then escaped s
-    else if eqb b (code "?") then Is One
-    else if eqb b (code "*") then Is (if begins (code "*") s then StarStar else Star)
-    else if eqb b (code "[") then classPart s (upTo (code "]") s)
-    else if eqb b (code "@") && begins (code "{") s then usePart s (upTo (code "}") s)
-    else if eqb b (code "]") || eqb b (code "{") || eqb b (code "}") || eqb b (code "^") then Bad
-    else Is (Byte b)
+part b s = starting b s .is
+
+unfoldable pub extra : ℕ → List ℕ → ℕ
+extra b s = starting b s .more
 
 -- the parts after the first k bytes: "** first"
 unfoldable pub parts : ℕ → List ℕ → List Part

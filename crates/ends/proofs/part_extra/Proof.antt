@@ -2,36 +2,31 @@ use denote.Ref.{now}
 use lib.ListN.{drop-of-length-le}
 use lib.Seq.{drop-cons}
 use borrow.Author.Tests.{eq-eqb, ne-eqb}
-use Rattle.pattern.specs.Pieces.{extra}
+use Rattle.pattern.proofs.Laws.{extra-by}
 use borrow.Author.Needs.{needs}
 use Rattle.ends.proofs.part_extra.Statement.{statement}
 use Rattle.ends.proofs.part_extra.Tie as tie
 
 returns : tie.Need-returns
-unfolding extra
-returns c = rw (eq-eqb _ _ (c .before .if1 .taken), drop-cons (now (c .before .before .before .args .s)) (c .before .before .before .args .at) 0 (c .if2 .taken), extra)
+returns c = rw (extra-by _ _, eq-eqb _ _ (c .before .if1 .taken), drop-cons (now (c .before .before .before .args .s)) (c .before .before .before .args .at) 0 (c .if2 .taken))
 
 returns-2 : tie.Need-returns-2
-unfolding extra
-returns-2 c = rw (eq-eqb _ _ (c .before .if1 .taken), drop-of-length-le (now (c .before .before .before .args .s)) (c .if2 .left), extra)
+returns-2 c = rw (extra-by _ _, eq-eqb _ _ (c .before .if1 .taken), drop-of-length-le (now (c .before .before .before .args .s)) (c .if2 .left))
 
 begins-at-requires : tie.Need-begins-at-requires
 begins-at-requires c κs = search needs
 
 returns-3 : tie.Need-returns-3
-unfolding extra
-returns-3 c = rw (ne-eqb _ _ (c .before .before .before .if1 .left), eq-eqb _ _ (c .before .before .if3 .taken), ← c .before .begins-at .ensures, c .if4 .taken, extra)
+returns-3 c = rw (extra-by _ _, ne-eqb _ _ (c .before .before .before .if1 .left), eq-eqb _ _ (c .before .before .if3 .taken), ← c .before .begins-at .ensures, c .if4 .taken)
 
 returns-4 : tie.Need-returns-4
-unfolding extra
-returns-4 c = rw (ne-eqb _ _ (c .before .before .before .if1 .left), eq-eqb _ _ (c .before .before .if3 .taken), ← c .before .begins-at .ensures, c .if4 .left, extra)
+returns-4 c = rw (extra-by _ _, ne-eqb _ _ (c .before .before .before .if1 .left), eq-eqb _ _ (c .before .before .if3 .taken), ← c .before .begins-at .ensures, c .if4 .left)
 
 up-to-requires : tie.Need-up-to-requires
 up-to-requires c κs = search needs
 
 returns-5 : tie.Need-returns-5
-unfolding extra
-returns-5 c = rw (ne-eqb _ _ (c .before .before .before .if1 .left), ne-eqb _ _ (c .before .before .if3 .left), eq-eqb _ _ (c .before .if5 .taken), extra) (c .up-to .ensures)
+returns-5 c = rw (extra-by _ _, ne-eqb _ _ (c .before .before .before .if1 .left), ne-eqb _ _ (c .before .before .if3 .left), eq-eqb _ _ (c .before .if5 .taken)) (c .up-to .ensures)
 
 begins-at-requires-2 : tie.Need-begins-at-requires-2
 begins-at-requires-2 c κs = search needs
@@ -40,12 +35,10 @@ up-to-requires-2 : tie.Need-up-to-requires-2
 up-to-requires-2 c κs = search needs
 
 returns-6 : tie.Need-returns-6
-unfolding extra
-returns-6 c = rw (ne-eqb _ _ (c .before .before .before .before .before .if1 .left), ne-eqb _ _ (c .before .before .before .before .if3 .left), ne-eqb _ _ (c .before .before .before .if5 .left), ← c .before .before .begins-at2 .ensures, c .before .if6 .taken, extra) (c .up-to2 .ensures)
+returns-6 c = rw (extra-by _ _, ne-eqb _ _ (c .before .before .before .before .before .if1 .left), ne-eqb _ _ (c .before .before .before .before .if3 .left), ne-eqb _ _ (c .before .before .before .if5 .left), ← c .before .before .begins-at2 .ensures, c .before .if6 .taken) (c .up-to2 .ensures)
 
 returns-7 : tie.Need-returns-7
-unfolding extra
-returns-7 c = rw (ne-eqb _ _ (c .before .before .before .before .if1 .left), ne-eqb _ _ (c .before .before .before .if3 .left), ne-eqb _ _ (c .before .before .if5 .left), ← c .before .begins-at2 .ensures, c .if6 .left, extra)
+returns-7 c = rw (extra-by _ _, ne-eqb _ _ (c .before .before .before .before .if1 .left), ne-eqb _ _ (c .before .before .before .if3 .left), ne-eqb _ _ (c .before .before .if5 .left), ← c .before .begins-at2 .ensures, c .if6 .left)
 
 pub part-extra-spec : {M : Type 1} → statement M
 part-extra-spec =
