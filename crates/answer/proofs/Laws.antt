@@ -5,7 +5,7 @@ use mathlib.Core.List.{List, [], _∷_, _++_, append-assoc}
 use mathlib.Core.Bool.{Bool, true, false, not, _||_, _&&_, and-true, or-true, or-false, false≢true}
 use native.Mathlib.Numerals.{add-one}
 use native.Mathlib.Omega.{arith}
-use lib.Bits.{bitAnd, bitOr, and-comm, and-le-l, and-le-r, or-lt}
+use lib.Bits.{bitAnd, and-comm, and-le-l, and-le-r}
 use lib.Dec.{eqb}
 use lib.ListN.{length, replicate, set, getD, take, length-take}
 use lib.Seq.{set-at, take-suc, take-all}
@@ -16,7 +16,7 @@ use Rattle.perms.specs.Sets.{has, setOf, perms, unite, without, within}
 use Rattle.perms.specs.declared.Perms.{Perms}
 use Rattle.modes.specs.declared.Execute.{Execute}
 use Rattle.modes.specs.declared.Execute.the-variants.{NotAsked, Denied, Conflict, ByMode}
-use Rattle.perms.proofs.Laws.{has-and, has-or, has-set, has-unite, has-within, has-without, set-eq, set-lt, unite-lt, within-has, without-le}
+use Rattle.perms.proofs.Laws.{has-and, has-set, has-unite, has-within, has-without, set-eq, set-lt, unite-lt, within-has, without-le}
 use Rattle.family.specs.Members.{preferred, Choice, None, Single, Several, choice}
 use Rattle.findings.specs.Findings.{Move, Findings, sameMove}
 use Rattle.findings.specs.Weighed.{Weighed, weighed}

@@ -1,6 +1,6 @@
 -- The answer that findings give, and refusals.
 use Prim.Native.Nat.{ℕ, _-_, min}
-use mathlib.Core.List.{List, [], _∷_, _++_}
+use mathlib.Core.List.{List, [], _++_}
 use mathlib.Core.Bool.{Bool, true, false, not, _||_, _&&_}
 use lib.ListN.{length, replicate, take}
 use lib.Dec.{eqb}

@@ -14,7 +14,6 @@ use print::put_execute;
 use print::put_number;
 use print::put_target;
 use text::Refusal;
-ghost use mathlib.Core.Path.{_≡_};
 ghost use Prim.Native.Nat.{_≤_};
 ghost use lib.ListN.{length};
 

@@ -1,8 +1,8 @@
 -- The findings of one list of rules followed by another.
 use Prim.Native.Nat.{ℕ}
-use mathlib.Core.Path.{_≡_, refl, sym, ap, ap₂, _∙_}
-use mathlib.Core.List.{List, [], _∷_, _++_, append-assoc}
-use mathlib.Core.Bool.{Bool, true, false, _||_, _&&_}
+use mathlib.Core.Path.{_≡_, sym, ap, ap₂, _∙_}
+use mathlib.Core.List.{List, _++_}
+use mathlib.Core.Bool.{Bool, _||_, _&&_}
 use lib.Bits.{bitOr, or-lt}
 use Rattle.scan.specs.Bytes.{some}
 use Rattle.scan.proofs.Laws.{some-append}

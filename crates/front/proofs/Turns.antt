@@ -9,7 +9,6 @@ use lib.ListN.{length, drop, getD, drop-of-length-le}
 use lib.Seq.{drop-cons}
 use lib.Dec.{eqb}
 use borrow.Author.Tests.{eq-eqb, ne-eqb}
-use Rattle.scan.specs.Bytes.{if_then_else_}
 use Rattle.front.specs.Front.{beginning, plainAfter, frontAfter}
 
 module _ (s path : List ℕ) (i : ℕ) (slash : Bool) where

@@ -14,7 +14,7 @@ use borrow.Author.Tests.{eqb-true, eq-eqb, ne-eqb}
 use Rattle.scan.specs.Bytes.{begins, between, bytes, every, run, same, some, span, if_then_else_}
 use Rattle.blanks.specs.Blanks.{hash, nul, standing}
 use Rattle.blanks.proofs.Laws.{standing-settled}
-use Rattle.tokens.specs.Tokens.{Next, Found, Stopped, End, comma, inQuotes, plain, quote, tokenAt, tokenFrom}
+use Rattle.tokens.specs.Tokens.{Next, comma, inQuotes, plain, quote, tokenAt, tokenFrom}
 use Rattle.tokens.proofs.Laws.{token-by}
 use Rattle.keywords.specs.Keywords.{barred, cut, firstWord, fixedWords, notTaken, opening, wordIs}
 

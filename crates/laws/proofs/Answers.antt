@@ -12,7 +12,7 @@ use Rattle.scan.proofs.Bools.{and-left, and-right}
 use Rattle.perms.specs.Sets.{has, setOf}
 use Rattle.perms.proofs.Laws.{has-set}
 use Rattle.family.specs.Members.{those, all, SameMembers, Choice, None, Single, Several, isSingle, isSeveral}
-use Rattle.family.specs.Families.{Part, choiceOf, granted, grantedOne, part, SameRules, Added}
+use Rattle.family.specs.Families.{Part, choiceOf, granted, grantedOne, SameRules, Added}
 use Rattle.family.proofs.Lists.{Alike, alike, alike-those, shown-same}
 use Rattle.family.proofs.Orders.{shown, choice-shown, part-sound, Conflict, deny-added, deny-added-one, allow-added, allow-added-one}
 use Rattle.modes.specs.declared.Execute.the-variants as execute

@@ -9,7 +9,7 @@ use lib.Dec.{ltb}
 use Rattle.scan.specs.Bytes.{same, some}
 use Rattle.scan.proofs.Laws.{same-eq, same-self}
 use Rattle.scan.proofs.Bools.{or-right}
-use Rattle.text.specs.Reading.{Reading, Read, Refused, _>>=_, refuseIf}
+use Rattle.text.specs.Reading.{Reading, Read, Refused, _>>=_}
 use Rattle.tokens.specs.Tokens.{Token, noStop, tokenAt}
 use Rattle.blanks.specs.Blanks.{standing}
 use Rattle.keywords.specs.Keywords.{firstWord, notTaken}

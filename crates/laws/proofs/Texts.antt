@@ -13,7 +13,7 @@ use Rattle.pattern.specs.Expansions.{Variable}
 use Rattle.rule.specs.Rules.{Rule}
 use Rattle.preamble.specs.Variables.{finalSets}
 use Rattle.profile.specs.Profiles.{Profile, File, fileOf}
-use Rattle.findings.specs.Findings.{Access, Findings, findings, Equal}
+use Rattle.findings.specs.Findings.{Access, findings, Equal}
 use Rattle.answer.specs.Answers.{answerFrom, refusal}
 use Rattle.answer.specs.declared.Answer.{Answer}
 use Rattle.answer.specs.declared.Verdict.{Verdict}

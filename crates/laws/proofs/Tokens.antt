@@ -1,13 +1,13 @@
 -- Demand 3 on texts, of rules that are the same when their tokens are.
 use Prim.Native.Nat.{ℕ, zero, suc, _+_, _-_, _≤_}
-use mathlib.Core.Path.{_≡_, refl, sym, ap, ap₂, _∙_, subst}
+use mathlib.Core.Path.{_≡_, refl, sym, ap, _∙_, subst}
 use mathlib.Core.List.{List, [], _∷_, map, List·Memᴰ, Memᴰ·map, Memᴰ·of-map, Memᴰ·cast}
 use mathlib.Core.Bool.{Bool, true, false, _||_}
 use native.Mathlib.Omega.{arith}
 use lib.ListN.{length}
 use lib.Dec.{ltb}
 use Rattle.scan.specs.Bytes.{bytes, same, some}
-use Rattle.text.specs.Reading.{Reading, Read, Refused, _>>=_, refuseIf}
+use Rattle.text.specs.Reading.{Reading, Read, Refused, _>>=_}
 use Rattle.tokens.specs.Tokens.{Token, noStop, tokenAt}
 use Rattle.blanks.specs.Blanks.{standing, standsAt}
 use Rattle.keywords.specs.Keywords.{firstWord, notTaken}
@@ -23,7 +23,7 @@ use Rattle.laws.specs.Orders.{Accepted, SameButRules, NoMore, NoLess}
 use Rattle.family.specs.Families.{SameRules, Added}
 use Rattle.family.specs.Families as families
 use Rattle.laws.specs.Written as written
-use Rattle.laws.specs.Written.{Written, writtenAt, SameTokens, meaning, WrittenRules, rulesWritten, WrittenProfile, profilesWritten, WrittenFile, writtenOf, AcceptedAs, SameWritten, AddedWritten, SameButWritten, profileBy, fileBy}
+use Rattle.laws.specs.Written.{Written, meaning, WrittenRules, rulesWritten, WrittenProfile, profilesWritten, WrittenFile, writtenOf, AcceptedAs, SameWritten, AddedWritten, SameButWritten, profileBy, fileBy}
 use Rattle.laws.proofs.Steps.{never, inner, step, unless}
 use Rattle.laws.proofs.Orders.{any-order, deny-added, allow-added, other-profiles}
 use Rattle.laws.proofs.Written.{Said, step-said, same-meaning}

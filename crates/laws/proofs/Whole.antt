@@ -4,8 +4,8 @@ use Prim.Native.Char.{code}
 use native.Mathlib.Omega.{arith}
 use mathlib.Core.Path.{_≡_, refl, sym, ap, ap₂, _∙_, subst}
 use mathlib.Core.List.{List, [], _∷_}
-use mathlib.Core.Bool.{Bool, true, false, not, _||_, _&&_, false≢true, or-false, or-true}
-use lib.ListN.{length, getD, take, drop, take-append-drop}
+use mathlib.Core.Bool.{Bool, true, false, _||_, _&&_, false≢true, or-false, or-true}
+use lib.ListN.{getD, take, drop, take-append-drop}
 use lib.Dec.{eqb}
 use borrow.Author.Tests.{eqb-true}
 use Rattle.scan.specs.Bytes.{bytes, same, holds, every, some, run, if_then_else_}

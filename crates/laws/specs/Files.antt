@@ -5,7 +5,6 @@ use mathlib.Core.Bool.{Bool, _&&_}
 use lib.Dec.{eqb}
 use Rattle.scan.specs.Bytes.{if_then_else_}
 use Rattle.perms.specs.Sets.{has, setOf, perms}
-use Rattle.family.specs.Members.{Choice}
 use Rattle.family.specs.Families.{Family, Part, part, choiceOf, granted, grantedOne, recorded}
 use Rattle.modes.specs.declared.Execute.{Execute}
 use Rattle.modes.specs.declared.Execute.the-variants.{NotAsked}

@@ -19,8 +19,8 @@ use Rattle.pattern.specs.Items.{Item, Single, Among, before, body, isClo
 use Rattle.pattern.specs.Codes.{bracketed, decode, notClose}
 use Rattle.pattern.proofs.Codes.{decode-byte, decode-one, decode-star, decode-stars, decode-place}
 use Rattle.pattern.specs.Places.{partAt, partEnd, itemAt, itemEnd, lone}
-use Rattle.pattern.specs.Expansions.{Choices, Variable, isSet, ofName}
-use Rattle.pattern.specs.Table.{bytesAt, variables, numberOf, ofNumber}
+use Rattle.pattern.specs.Expansions.{Variable, isSet}
+use Rattle.pattern.specs.Table.{bytesAt, variables, numberOf}
 use Rattle.pattern.specs.Reads.{Seen, escapeOf, starOf, singleOf, classAfter, useAfter}
 use Rattle.pattern.specs.declared.PartRead.the-variants as read
 use Rattle.pattern.specs.declared.PieceRead.the-variants as piece
@@ -453,16 +453,4 @@ module _ (text vars name : List ℕ) where
           (x || some (λ (v : Variable). same (v .name) name) (variables text vars w)) ≡
           not (eqb (elim x as (λ _. ℕ) [ true ↦ suc w | false ↦ numberOf text vars w name ]) 0)
       go true h = sym (ap not (ne-eqb (suc w) 0 (λ q. omega arith)))
-      go false h = h
-
-  -- what a name stands for goes by its number
-  pub number-of : {A : Type 0} (D : Choices A) (n : ℕ) → ofName D (variables text vars n) name ≡ ofNumber D text vars (numberOf text vars n name)
-  unfolding ofName numberOf variables
-  number-of {A = A} D zero = refl
-  number-of {A = A} D (suc w) = go (same (bytesAt text vars (2 * w)) name) (number-of D w)
-    where
-      go : (x : Bool) → ofName D (variables text vars w) name ≡ ofNumber D text vars (numberOf text vars w name) →
-          (elim x as (λ _. A) [ true ↦ ofNumber D text vars (suc w) | false ↦ ofName D (variables text vars w) name ]) ≡
-          ofNumber D text vars (elim x as (λ _. ℕ) [ true ↦ suc w | false ↦ numberOf text vars w name ])
-      go true h = refl
       go false h = h

@@ -1,7 +1,7 @@
 -- What is refused of a pattern or value, in the paper's order; 0 where nothing is.
 use Prim.Native.Nat.{ℕ}
-use mathlib.Core.List.{List, [], _∷_}
-use mathlib.Core.Bool.{Bool, true, false, not, _||_}
+use mathlib.Core.List.{List}
+use mathlib.Core.Bool.{Bool, true, false}
 use lib.ListN.{length}
 use lib.Dec.{ltb}
 use Rattle.scan.specs.Bytes.{every, isEmpty}

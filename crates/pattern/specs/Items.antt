@@ -1,9 +1,9 @@
 -- The items of a pattern: its parts, and its alternations.
-use Prim.Native.Nat.{ℕ, zero, suc, _+_}
+use Prim.Native.Nat.{ℕ, zero, suc}
 use Prim.Native.Char.{code}
 use mathlib.Core.List.{List, [], _∷_}
-use mathlib.Core.Bool.{Bool, true, false, not, _||_, _&&_}
-use lib.ListN.{length, take, drop}
+use mathlib.Core.Bool.{Bool, true, false, not, _&&_}
+use lib.ListN.{length, take}
 use lib.Dec.{eqb, leb, ltb}
 use Rattle.scan.specs.Bytes.{every, if_then_else_}
 use Rattle.pattern.specs.Pieces.{Part, Is, Use, Bad, extra, part, parts}

@@ -2,7 +2,7 @@ use borrow.Author.Needs.{needs}
 use native.Mathlib.Omega.{arith}
 use denote.Ref.{now}
 use Prim.Native.Nat.{_≤_, min}
-use mathlib.Core.Path.{_≡_, refl, sym, ap₂, _∙_}
+use mathlib.Core.Path.{_≡_, sym, ap₂, _∙_}
 use Rattle.scan.specs.Bytes.{same, some, span}
 use Rattle.heads.specs.Places.{namesOf}
 use Rattle.heads.proofs.Laws.{names-hit, names-miss, names-none}

@@ -1,5 +1,5 @@
-use Rattle.scan.specs.Bytes.{bytes, some, every}
-use Rattle.keywords.specs.Keywords.{cut, fixedWords}
+use Rattle.scan.specs.Bytes.{bytes, some}
+use Rattle.keywords.specs.Keywords.{cut}
 use borrow.Author.Needs.{needs}
 use Rattle.keywords.proofs.is_fixed.Statement.{statement}
 use Rattle.keywords.proofs.is_fixed.Tie as tie

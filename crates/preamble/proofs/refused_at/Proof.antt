@@ -1,4 +1,3 @@
-use borrow.Author.Needs.{needs}
 use mathlib.Core.Path.{refl}
 use Rattle.preamble.specs.Places.{seenPreamble}
 use Rattle.preamble.proofs.refused_at.Statement.{statement}

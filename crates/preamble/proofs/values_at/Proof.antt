@@ -1,5 +1,5 @@
 use borrow.Author.Needs.{needs}
-use mathlib.Core.Path.{_≡_, sym, _∙_}
+use mathlib.Core.Path.{sym, _∙_}
 use Rattle.tokens.proofs.Laws.{no-token}
 use Rattle.variables.specs.Added.{room}
 use Rattle.preamble.specs.Places.{Upto}

@@ -1,9 +1,9 @@
-use mathlib.Core.Path.{sym, _∙_}
+use mathlib.Core.Path.{sym}
 use native.Mathlib.Omega.{arith}
 use denote.Ref.{now}
 use Prim.Native.Nat.{_-_}
 use lib.ListN.{length, drop, drop-of-length-le, length-drop}
-use lib.Seq.{take-all, drop-length}
+use lib.Seq.{take-all}
 use native.Mathlib.Nat.{sub-self}
 use borrow.Author.Needs.{needs}
 use Rattle.text.proofs.bytes_from.Statement.{statement}

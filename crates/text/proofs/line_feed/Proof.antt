@@ -1,4 +1,3 @@
-use borrow.Author.Needs.{needs}
 use borrow.Author.Tests.{eq-eqb, ne-eqb}
 use Rattle.text.proofs.line_feed.Statement.{statement}
 use Rattle.text.proofs.line_feed.Tie as tie
