@@ -23,7 +23,7 @@ use Rattle.laws.specs.Orders.{Accepted, SameButRules, NoMore, NoLess}
 use Rattle.family.specs.Families.{SameRules, Added}
 use Rattle.family.specs.Families as families
 use Rattle.laws.specs.Written as written
-use Rattle.laws.specs.Written.{Written, meaning, WrittenRules, rulesWritten, WrittenProfile, profilesWritten, WrittenFile, writtenOf, AcceptedAs, SameWritten, AddedWritten, SameButWritten, profileBy, fileBy}
+use Rattle.laws.specs.Written.{Written, meaning, WrittenRules, unlessClosed, rulesWritten, WrittenProfile, profilesWritten, WrittenFile, writtenOf, AcceptedAs, SameWritten, AddedWritten, SameButWritten, profileBy, fileBy}
 use Rattle.laws.proofs.Steps.{never, inner, step, unless}
 use Rattle.laws.proofs.Orders.{any-order, deny-added, allow-added, other-profiles}
 use Rattle.laws.proofs.Written.{Said, step-said, same-meaning}
@@ -38,20 +38,20 @@ record RulesSaid (left : ℕ) (s : List ℕ) (at : ℕ) (rs : RulesRead) : Type 
   said : map meaning (written .rules) ≡ rs .rules
 
 said-none : (left : ℕ) (s : List ℕ) (at : ℕ) (rs : RulesRead) → standsAt (bytes "}") s at ≡ true → rs ≡ noRules (standing s at + 1) → RulesSaid left s at rs
-unfolding rulesWritten
+unfolding rulesWritten unlessClosed
 said-none left s at rs h k = record { written = record { rules = []; next = standing s at + 1 }; stands = by left; next = rw k; said = rw k }
   where
     by : (n : ℕ) → rulesWritten n s at ≡ Read (record { rules = []; next = standing s at + 1 })
-    by zero = rw (h, rulesWritten)
-    by (suc n) = rw (h, rulesWritten)
+    by zero = rw (h, unlessClosed)
+    by (suc n) = rw (h, unlessClosed)
 
 said-more : (left : ℕ) (s : List ℕ) (at : ℕ) (rs : RulesRead) (r : RuleRead) (more : RulesRead) → standsAt (bytes "}") s at ≡ false → Said s at r
     → RulesSaid left s (r .next) more → rs ≡ record { rules = r .rule ∷ more .rules; next = more .next } → RulesSaid (suc left) s at rs
-unfolding rulesWritten
+unfolding rulesWritten unlessClosed
 said-more left s at rs r more h x y k =
     record {
       written = record { rules = x .written ∷ y .written .rules; next = y .written .next };
-      stands = rw (h, rulesWritten, x .stands, ← x .next, y .stands);
+      stands = rw (h, unlessClosed, x .stands, ← x .next, y .stands);
       next = rw (k, y .next);
       said = rw (k, x .said, y .said);
     }

@@ -126,21 +126,17 @@ pub record WrittenRules : Type 0 where
   pub rules : List Written
   pub next : ℕ
 
--- the rules from a place on, at most so many, up to the } that ends the profile
+-- no rule where the } that ends the profile stands
+unfoldable pub unlessClosed : List ℕ → ℕ → Reading WrittenRules → Reading WrittenRules
+unlessClosed s at more = elim (standsAt (bytes "}") s at) [ true ↦ Read (record { rules = []; next = standing s at + 1 }) | false ↦ more ]
+
+-- the rules from a place on, at most so many
 unfoldable pub rulesWritten : (left : ℕ) → List ℕ → ℕ → Reading WrittenRules
-rulesWritten zero s at =
-    elim (standsAt (bytes "}") s at) [
-      | true ↦ Read (record { rules = []; next = standing s at + 1 })
-      | false ↦ Refused 9 (standing s at)
-    ]
-rulesWritten (suc left) s at =
-    elim (standsAt (bytes "}") s at) [
-      | true ↦ Read (record { rules = []; next = standing s at + 1 })
-      | false ↦ do
-        w ← writtenAt s at
-        more ← rulesWritten left s (w .next)
-        Read (record { rules = w ∷ more .rules; next = more .next })
-    ]
+rulesWritten zero s at = unlessClosed s at (Refused 9 (standing s at))
+rulesWritten (suc left) s at = unlessClosed s at (do
+  w ← writtenAt s at
+  more ← rulesWritten left s (w .next)
+  Read (record { rules = w ∷ more .rules; next = more .next }))
 
 -- a profile: its name and the tokens of its rules
 pub record WrittenProfile : Type 0 where

@@ -13,7 +13,7 @@ use Rattle.modes.specs.declared.Transition.the-variants as transition
 use Rattle.text.specs.Reading.{Read}
 use Rattle.laws.specs.Computed.{computed}
 use Rattle.laws.specs.Written as tokens
-use Rattle.laws.specs.Written.{Written, wordsBy, qualifierWords, targetsAt, writtenAt, SameTokens, rulesWritten, profilesWritten, WrittenProfile, WrittenFile, writtenOf, AcceptedAs, SameWritten, AddedWritten, SameButWritten}
+use Rattle.laws.specs.Written.{Written, wordsBy, qualifierWords, targetsAt, writtenAt, SameTokens, unlessClosed, rulesWritten, profilesWritten, WrittenProfile, WrittenFile, writtenOf, AcceptedAs, SameWritten, AddedWritten, SameButWritten}
 use Rattle.laws.specs.Examples.{rule, only, ordered, shuffled, readA, writeB, opened, barred, ordered-file, shuffled-file, open-file}
 
 -- ---- two rules whose tokens are the same, quotes, a written allow and the order and repeating of letters aside
@@ -73,11 +73,11 @@ abbrev shuffledWritten : List Written
 shuffledWritten = written [] "/b" "ww" 19 ∷ written [] "/a" "r" 36 ∷ written (bytes "allow" ∷ []) "/a" "rr" 49 ∷ []
 
 pub ordered-as : AcceptedAs (bytes ordered) (onlyWritten "/p" orderedWritten)
-unfolding computed writtenAt qualifierWords wordsBy targetsAt rulesWritten profilesWritten writtenOf
+unfolding computed writtenAt qualifierWords wordsBy targetsAt unlessClosed rulesWritten profilesWritten writtenOf
 ordered-as = record { file = only "/p" (readA ∷ writeB ∷ []); accepted = ordered-file; written = refl }
 
 pub shuffled-as : AcceptedAs (bytes shuffled) (onlyWritten "/p" shuffledWritten)
-unfolding computed writtenAt qualifierWords wordsBy targetsAt rulesWritten profilesWritten writtenOf
+unfolding computed writtenAt qualifierWords wordsBy targetsAt unlessClosed rulesWritten profilesWritten writtenOf
 shuffled-as = record { file = only "/p" (writeB ∷ readA ∷ readA ∷ []); accepted = shuffled-file; written = refl }
 
 -- one profile, of the same name
@@ -139,15 +139,15 @@ abbrev readWritten : Written
 readWritten = written [] "/ab" "m" 25
 
 pub open-as : AcceptedAs (bytes "/p { /a* rw, }") (onlyWritten "/p" (openWritten ∷ []))
-unfolding computed writtenAt qualifierWords wordsBy targetsAt rulesWritten profilesWritten writtenOf
+unfolding computed writtenAt qualifierWords wordsBy targetsAt unlessClosed rulesWritten profilesWritten writtenOf
 open-as = record { file = only "/p" (opened ∷ []); accepted = open-file; written = refl }
 
 pub barred-as : AcceptedAs (bytes "/p { deny /ab w, allow /a* \nrw , }") (onlyWritten "/p" (barredWritten ∷ openAllowed ∷ []))
-unfolding computed writtenAt qualifierWords wordsBy targetsAt rulesWritten profilesWritten writtenOf
+unfolding computed writtenAt qualifierWords wordsBy targetsAt unlessClosed rulesWritten profilesWritten writtenOf
 barred-as = record { file = only "/p" (barred ∷ opened ∷ []); accepted = record { short = omega arith; file = refl }; written = refl }
 
 pub mapped-as : AcceptedAs (bytes "/p { allow /a* rw, /ab m, }") (onlyWritten "/p" (keptWritten ∷ readWritten ∷ []))
-unfolding computed writtenAt qualifierWords wordsBy targetsAt rulesWritten profilesWritten writtenOf
+unfolding computed writtenAt qualifierWords wordsBy targetsAt unlessClosed rulesWritten profilesWritten writtenOf
 mapped-as = record { file = only "/p" (opened ∷ rule false "/ab" 8 transition.Absent ∷ []); accepted = record { short = omega arith; file = refl }; written = refl }
 
 -- a written allow and the place are of no matter
