@@ -160,14 +160,7 @@ fn number(text: &[u8]) -> usize {
 }
 
 // 1 where the pattern from a to before e has no fault and matches the path, else 0.
-fn hit(
-    text: &[u8],
-    vars: &[usize; 1120],
-    sizes: &[usize; 132],
-    a: usize,
-    e: usize,
-    path: &[u8],
-) -> usize
+fn hit(text: &[u8], vars: &[usize], sizes: &[usize; 132], a: usize, e: usize, path: &[u8]) -> usize
     ensures { λ r. ⌜ r ≤ 1 ⌝ }
 {
     if pattern_fault(text, vars, COUNT, sizes, a, e) != 0 {

@@ -45,7 +45,7 @@ fn rules_end(text: &[u8], count: usize, at: Place) -> RulesRead
 // The rules of a profile, where so many are allowed.
 pub fn rules_at(
     text: &[u8],
-    vars: &[usize; 1120],
+    vars: &[usize],
     n: usize,
     sizes: &[usize; 132],
     left: usize,

@@ -12,6 +12,7 @@ use pattern::ItemRead;
 use pattern::PartRead;
 use scan::least;
 use scan::span;
+use variables::cell;
 use variables::named;
 ghost use mathlib.Core.Path.{_≡_};
 ghost use mathlib.Core.List.{List, _∷_, []};
@@ -65,18 +66,18 @@ fn high(d: usize, c: usize) -> usize
 }
 
 // The value of the variable w that holds expansion d of the variable.
-fn pick_value(text: &[u8], vars: &[usize; 1120], w: usize, sizes: &[usize; 132], d: usize) -> Choice
+fn pick_value(text: &[u8], vars: &[usize], w: usize, sizes: &[usize; 132], d: usize) -> Choice
     requires { ⌜ w < 32 ⌝ }
     ensures { λ r. ⌜ valueBy (now (text .entry)) (now (vars .entry)) w (now (sizes .entry)) (span (now (text .entry)) (r .start) (r .end)) .nth (r .digit)
         ≡ oneBy (now (text .entry)) (now (vars .entry)) w (now (sizes .entry)) (valuesOf (now (text .entry)) (now (vars .entry)) w) .nth d ⌝ }
 {
-    let m = least(16, vars[64 + w]);
+    let m = least(16, cell(vars, 64 + w));
     let mut left = d;
     let mut k = 0;
     while k < m {
         let j = 96 + 2 * (16 * w + k);
-        let start = vars[j];
-        let end = vars[j + 1];
+        let start = cell(vars, j);
+        let end = cell(vars, j + 1);
         let size = value_size(text, vars, w, sizes, start, end);
         let c = size.count;
         if left < c {
@@ -99,7 +100,7 @@ fn pick_value(text: &[u8], vars: &[usize; 1120], w: usize, sizes: &[usize; 132],
 // The alternative that holds expansion d of those that commas part.
 fn pick_alternative(
     text: &[u8],
-    vars: &[usize; 1120],
+    vars: &[usize],
     n: usize,
     sizes: &[usize; 132],
     a: usize,
@@ -141,7 +142,7 @@ fn pick_alternative(
 fn write_part(
     n: usize,
     text: &[u8],
-    vars: &[usize; 1120],
+    vars: &[usize],
     sizes: &[usize; 132],
     p: PartRead,
     d: usize,
@@ -169,7 +170,7 @@ fn write_part(
 fn write_value(
     n: usize,
     text: &[u8],
-    vars: &[usize; 1120],
+    vars: &[usize],
     sizes: &[usize; 132],
     a: usize,
     e: usize,
@@ -199,7 +200,7 @@ fn write_value(
 fn write_item(
     n: usize,
     text: &[u8],
-    vars: &[usize; 1120],
+    vars: &[usize],
     sizes: &[usize; 132],
     a: usize,
     e: usize,
@@ -227,7 +228,7 @@ fn write_item(
 // Expansion d of the pattern from a to before e, as far as there is room; how many codes that is. None of a text too long.
 pub fn write_pattern(
     text: &[u8],
-    vars: &[usize; 1120],
+    vars: &[usize],
     n: usize,
     sizes: &[usize; 132],
     a: usize,

@@ -13,7 +13,7 @@ ghost use Rattle.pattern.specs.Table.{env};
 ghost use Rattle.faults.specs.Sized.{sizeFault, faultBy};
 
 // The fault of the value from a to before e under the first n variables.
-pub fn value_fault(text: &[u8], vars: &[usize; 1120], n: usize, a: usize, e: usize) -> u8
+pub fn value_fault(text: &[u8], vars: &[usize], n: usize, a: usize, e: usize) -> u8
     ensures { λ r. ⌜ r ≡ valueFault (env (now (text .entry)) (now (vars .entry)) n) (span (now (text .entry)) a e) ⌝ }
 {
     let s = span(text, a, e);
@@ -48,7 +48,7 @@ fn size_fault(z: Size) -> u8
 // The fault of the pattern from a to before e under the first n variables by a table of their sizes.
 pub fn pattern_fault(
     text: &[u8],
-    vars: &[usize; 1120],
+    vars: &[usize],
     n: usize,
     sizes: &[usize; 132],
     a: usize,

@@ -103,7 +103,7 @@ pub fn pattern_form(text: &[u8], a: usize, e: usize) -> bool
 }
 
 // Whether the name that a part uses is set.
-fn known_part(text: &[u8], vars: &[usize; 1120], n: usize, p: PartRead) -> bool
+fn known_part(text: &[u8], vars: &[usize], n: usize, p: PartRead) -> bool
     ensures { λ r. ⌜ r ≡ namesPart (isSet (env (now (text .entry)) (now (vars .entry)) n)) (seenPart (now (text .entry)) p) ⌝ }
 {
     match p {
@@ -114,7 +114,7 @@ fn known_part(text: &[u8], vars: &[usize; 1120], n: usize, p: PartRead) -> bool
 }
 
 // Whether every name that the value from a to e uses is set.
-pub fn value_names(text: &[u8], vars: &[usize; 1120], n: usize, a: usize, e: usize) -> bool
+pub fn value_names(text: &[u8], vars: &[usize], n: usize, a: usize, e: usize) -> bool
     ensures { λ r. ⌜ r ≡ valueNames (isSet (env (now (text .entry)) (now (vars .entry)) n)) (span (now (text .entry)) a e) ⌝ }
 {
     let s = span(text, a, e);
@@ -130,7 +130,7 @@ pub fn value_names(text: &[u8], vars: &[usize; 1120], n: usize, a: usize, e: usi
 }
 
 // Whether every name that the alternatives from a to e use is set.
-fn alternatives_names(text: &[u8], vars: &[usize; 1120], n: usize, a: usize, e: usize) -> bool
+fn alternatives_names(text: &[u8], vars: &[usize], n: usize, a: usize, e: usize) -> bool
     ensures { λ r. ⌜ r ≡ every (valueNames (isSet (env (now (text .entry)) (now (vars .entry)) n))) (alternatives (span (now (text .entry)) a e)) ⌝ }
 {
     let s = span(text, a, e);
@@ -150,7 +150,7 @@ fn alternatives_names(text: &[u8], vars: &[usize; 1120], n: usize, a: usize, e: 
 }
 
 // Whether every name that an item uses is set.
-fn known_item(text: &[u8], vars: &[usize; 1120], n: usize, p: ItemRead) -> bool
+fn known_item(text: &[u8], vars: &[usize], n: usize, p: ItemRead) -> bool
     ensures { λ r. ⌜ r ≡ namesItem (isSet (env (now (text .entry)) (now (vars .entry)) n)) (seenItem (now (text .entry)) p) ⌝ }
 {
     match p {
@@ -160,7 +160,7 @@ fn known_item(text: &[u8], vars: &[usize; 1120], n: usize, p: ItemRead) -> bool
 }
 
 // Whether every name that the pattern from a to e uses is set.
-pub fn pattern_names(text: &[u8], vars: &[usize; 1120], n: usize, a: usize, e: usize) -> bool
+pub fn pattern_names(text: &[u8], vars: &[usize], n: usize, a: usize, e: usize) -> bool
     ensures { λ r. ⌜ r ≡ patternNames (isSet (env (now (text .entry)) (now (vars .entry)) n)) (span (now (text .entry)) a e) ⌝ }
 {
     let s = span(text, a, e);

@@ -21,7 +21,7 @@ pub struct Matched {
 // Expansion d of the pattern from a to before e against a path. Its codes are written over a lent buffer.
 fn match_expansion(
     text: &[u8],
-    vars: &[usize; 1120],
+    vars: &[usize],
     n: usize,
     sizes: &[usize; 132],
     a: usize,
@@ -46,7 +46,7 @@ fn match_expansion(
 // Each expansion in turn, up to the first of literals only that matches.
 fn match_expansions(
     text: &[u8],
-    vars: &[usize; 1120],
+    vars: &[usize],
     n: usize,
     sizes: &[usize; 132],
     a: usize,
@@ -82,7 +82,7 @@ fn match_expansions(
 // A path that does not begin with the pattern's front is matched by none of its expansions.
 pub fn match_good(
     text: &[u8],
-    vars: &[usize; 1120],
+    vars: &[usize],
     n: usize,
     sizes: &[usize; 132],
     a: usize,

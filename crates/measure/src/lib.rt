@@ -13,6 +13,7 @@ use scan::span;
 use sizes::Size;
 use sizes::plus;
 use sizes::times;
+use variables::cell;
 use variables::named;
 ghost use mathlib.Core.Path.{_≡_};
 ghost use Prim.Native.Nat.{ℕ, _+_, _≤_, _<_};
@@ -82,13 +83,7 @@ fn put_size(sizes: &mut [usize; 132], r: usize, z: Size)
 }
 
 // The size of a part.
-pub fn part_size(
-    text: &[u8],
-    vars: &[usize; 1120],
-    n: usize,
-    sizes: &[usize; 132],
-    p: PartRead,
-) -> Size
+pub fn part_size(text: &[u8], vars: &[usize], n: usize, sizes: &[usize; 132], p: PartRead) -> Size
     ensures { λ r. ⌜ r ≡ partBy (now (text .entry)) (now (vars .entry)) n (now (sizes .entry)) (seenPart (now (text .entry)) p) .size ⌝ }
 {
     match p {
@@ -130,7 +125,7 @@ fn literals_size(s: &[u8], at: usize, end: usize) -> Size
 // The size of a value or an alternative.
 pub fn value_size(
     text: &[u8],
-    vars: &[usize; 1120],
+    vars: &[usize],
     n: usize,
     sizes: &[usize; 132],
     a: usize,
@@ -152,23 +147,24 @@ pub fn value_size(
 }
 
 // The size of the variable w by the sizes of those before it.
-fn variable_size(text: &[u8], vars: &[usize; 1120], w: usize, sizes: &[usize; 132]) -> Size
+fn variable_size(text: &[u8], vars: &[usize], w: usize, sizes: &[usize; 132]) -> Size
     requires { ⌜ w < 32 ⌝ }
     ensures { λ r. ⌜ r ≡ oneBy (now (text .entry)) (now (vars .entry)) w (now (sizes .entry)) (valuesOf (now (text .entry)) (now (vars .entry)) w) .size ⌝ }
 {
-    let m = least(16, vars[64 + w]);
+    let m = least(16, cell(vars, 64 + w));
     let mut size = no_size();
     let mut k = 0;
     while k < m {
         let j = 96 + 2 * (16 * w + k);
-        size = plus(size, value_size(text, vars, w, sizes, vars[j], vars[j + 1]));
+        let one = value_size(text, vars, w, sizes, cell(vars, j), cell(vars, j + 1));
+        size = plus(size, one);
         k += 1;
     }
     size
 }
 
 // The sizes of the first n variables, at most 32.
-pub fn sizes_of(text: &[u8], vars: &[usize; 1120], n: usize) -> Sizes
+pub fn sizes_of(text: &[u8], vars: &[usize], n: usize) -> Sizes
     ensures { λ r. ⌜ Known (now (text .entry)) (now (vars .entry)) n (r .table) ⌝ }
 {
     let mut table = [0usize; 132];
@@ -186,7 +182,7 @@ pub fn sizes_of(text: &[u8], vars: &[usize; 1120], n: usize) -> Sizes
 // The size of the alternatives that commas part.
 fn among_size(
     text: &[u8],
-    vars: &[usize; 1120],
+    vars: &[usize],
     n: usize,
     sizes: &[usize; 132],
     a: usize,
@@ -208,13 +204,7 @@ fn among_size(
 }
 
 // The size of an item.
-pub fn item_size(
-    text: &[u8],
-    vars: &[usize; 1120],
-    n: usize,
-    sizes: &[usize; 132],
-    i: ItemRead,
-) -> Size
+pub fn item_size(text: &[u8], vars: &[usize], n: usize, sizes: &[usize; 132], i: ItemRead) -> Size
     ensures { λ r. ⌜ r ≡ itemBy (now (text .entry)) (now (vars .entry)) n (now (sizes .entry)) (seenItem (now (text .entry)) i) .size ⌝ }
 {
     match i {
@@ -226,7 +216,7 @@ pub fn item_size(
 // The size of the pattern from a to before e.
 pub fn pattern_size(
     text: &[u8],
-    vars: &[usize; 1120],
+    vars: &[usize],
     n: usize,
     sizes: &[usize; 132],
     a: usize,

@@ -158,14 +158,7 @@ fn operator_at(text: &[u8], sign: usize) -> OperatorRead
 }
 
 // The fault of the name from start to before end under the first n variables, where = or += follows it.
-fn name_fault(
-    text: &[u8],
-    vars: &[usize; 1120],
-    n: usize,
-    adds: bool,
-    start: usize,
-    end: usize,
-) -> u8
+fn name_fault(text: &[u8], vars: &[usize], n: usize, adds: bool, start: usize, end: usize) -> u8
     ensures { λ r. ⌜ r ≡ nameFault (env (now (text .entry)) (now (vars .entry)) n) adds (span (now (text .entry)) start end) ⌝ }
 {
     let number = named(text, vars, n, start, end);
@@ -185,7 +178,7 @@ fn name_fault(
 }
 
 // The fault of the next value of variable w, which stands from a to before e.
-fn next_fault(text: &[u8], vars: &[usize; 1120], w: usize, a: usize, e: usize) -> u8
+fn next_fault(text: &[u8], vars: &[usize], w: usize, a: usize, e: usize) -> u8
     ensures { λ r. ⌜ (w < 32 → r ≡ nextFault (room (now (vars .entry)) w) (env (now (text .entry)) (now (vars .entry)) w) (span (now (text .entry)) a e)) ⌝ }
 {
     if value_count(vars, w) < 16 {

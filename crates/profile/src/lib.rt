@@ -73,7 +73,7 @@ pub enum ProfileRead {
 // The profile at a place, where the first k profiles are known and so many rules are left.
 fn profile_at(
     text: &[u8],
-    vars: &[usize; 1120],
+    vars: &[usize],
     n: usize,
     sizes: &[usize; 132],
     table: &[usize; 128],
@@ -124,7 +124,7 @@ pub struct ProfilesRead {
 // The profiles from a place on, under the first n variables, whose sizes are known.
 fn profiles_at(
     text: &[u8],
-    vars: &[usize; 1120],
+    vars: &[usize],
     n: usize,
     sizes: &[usize; 132],
     at: Place,
@@ -180,12 +180,7 @@ pub struct FileRead {
 }
 
 // The profiles after the assignments, or the refusal.
-fn profiles_of(
-    text: &[u8],
-    vars: &[usize; 1120],
-    p: PreambleRead,
-    sizes: &[usize; 132],
-) -> ProfilesRead
+fn profiles_of(text: &[u8], vars: &[usize], p: PreambleRead, sizes: &[usize; 132]) -> ProfilesRead
     requires { ⌜ Known (now text) (now vars) (p .count) (now sizes) ⌝ }
     ensures { λ r. ⌜ seenProfiles (env (now (text .entry)) (now (vars .entry)) (p .count)) (now (text .entry)) r ≡ profilesOf (now (text .entry)) (seenPreamble (now (text .entry)) (now (vars .entry)) p) ⌝ }
     ensures few { λ r. ⌜ r .profiles .count ≤ 32 ⌝ }

@@ -66,7 +66,7 @@ fn rule_end(
 // The rule with these qualifiers and this pattern, under the first n variables and their sizes.
 fn rule_from(
     text: &[u8],
-    vars: &[usize; 1120],
+    vars: &[usize],
     n: usize,
     sizes: &[usize; 132],
     profile: usize,
@@ -107,7 +107,7 @@ pub enum Step {
 // The rule or the } that stands at a place.
 fn rule_here(
     text: &[u8],
-    vars: &[usize; 1120],
+    vars: &[usize],
     n: usize,
     sizes: &[usize; 132],
     profile: usize,
@@ -135,7 +135,7 @@ fn rule_here(
 // The rule or the } at a place; blanks and comments in front of it are passed over once.
 pub fn rule_at(
     text: &[u8],
-    vars: &[usize; 1120],
+    vars: &[usize],
     n: usize,
     sizes: &[usize; 132],
     profile: usize,

@@ -6,17 +6,27 @@ use scan::span;
 ghost use mathlib.Core.Path.{_≡_};
 ghost use Prim.Native.Nat.{min};
 ghost use lib.Dec.{ltb};
-ghost use lib.ListN.{length};
+ghost use lib.ListN.{length, getD};
 ghost use Rattle.scan.specs.Bytes.{if_then_else_, span};
 ghost use Rattle.pattern.specs.Table.{numberOf};
 ghost use Rattle.variables.specs.Added.{heldBy, nameSet, valueSet};
 
+// The number at a place of a lent table; 0 beyond its end.
+pub fn cell(table: &[usize], i: usize) -> usize
+    ensures { λ r. ⌜ r ≡ getD (now (table .entry)) i 0 ⌝ }
+{
+    if table.len() <= i {
+        return 0;
+    }
+    table[i]
+}
+
 // How many values variable w has.
-pub fn value_count(vars: &[usize; 1120], w: usize) -> usize
+pub fn value_count(vars: &[usize], w: usize) -> usize
     ensures { λ r. ⌜ r ≡ (if ltb w 32 then heldBy (now (vars .entry)) w else 0) ⌝ }
 {
     if w < 32 {
-        return least(16, vars[64 + w]);
+        return least(16, cell(vars, 64 + w));
     }
     0
 }
@@ -52,14 +62,14 @@ pub fn with_value(vars: &mut [usize; 1120], w: usize, a: usize, e: usize)
 }
 
 // The number of the variable whose name stands from start to end in the text: 1 more than its place in the table, 0 where it is not set.
-pub fn named(text: &[u8], vars: &[usize; 1120], n: usize, start: usize, end: usize) -> usize
+pub fn named(text: &[u8], vars: &[usize], n: usize, start: usize, end: usize) -> usize
     ensures { λ r. ⌜ r ≡ numberOf (now (text .entry)) (now (vars .entry)) (min 32 n) (span (now (text .entry)) start end) ⌝ }
 {
     let name = span(text, start, end);
     let mut i = least(32, n);
     while 0 < i {
         let w = 2 * (i - 1);
-        if same_bytes(span(text, vars[w], vars[w + 1]), name) {
+        if same_bytes(span(text, cell(vars, w), cell(vars, w + 1)), name) {
             return i;
         }
         i -= 1;

@@ -46,7 +46,7 @@ fn no_findings() -> Findings
 // The findings with one rule more, under the first n variables and their sizes.
 fn weigh(
     text: &[u8],
-    vars: &[usize; 1120],
+    vars: &[usize],
     n: usize,
     sizes: &[usize; 132],
     path: &[u8],
@@ -74,7 +74,7 @@ fn weigh(
 // The findings of count rules from a place on, where the text and the path fit and the sizes of the first n variables are known.
 fn gather(
     text: &[u8],
-    vars: &[usize; 1120],
+    vars: &[usize],
     n: usize,
     sizes: &[usize; 132],
     path: &[u8],
@@ -112,7 +112,7 @@ fn gather(
 // The findings of count rules from a place on, under the first n variables; none where the text or the path is too long to be answered.
 pub fn findings_of(
     text: &[u8],
-    vars: &[usize; 1120],
+    vars: &[usize],
     n: usize,
     path: &[u8],
     owner: bool,

@@ -20,7 +20,7 @@ abbrev μ-loop : tie.MeasureT-loop
 μ-loop text vars n sizes left place₀ count₀ place count = left - count
 
 loop-holds : tie.Need-loop-holds Inv-loop μ-loop
-loop-holds c = let e : c .before .args .left - 0 ≡ c .before .args .left = omega arith in (omega arith, rw e (from-none _))
+loop-holds c = let e : c .before .before .args .left - 0 ≡ c .before .before .args .left = omega arith in (omega arith, rw e (from-none _))
 
 rule-at-requires : tie.Need-rule-at-requires Inv-loop μ-loop
 rule-at-requires c κs = search needs
@@ -37,7 +37,7 @@ loop-less c = search needs
 loop-again : tie.Need-loop-again Inv-loop μ-loop
 loop-again c =
     let l = (c .before .before .before .before .before .loop) in
-    let a = (c .before .before .before .before .before .before .before .args) in
+    let a = (c .before .before .before .before .before .before .before .before .args) in
     let f = faultBy (now (a .text)) (now (a .vars)) (a .n) (now (a .sizes)) in
     let e : a .left - l .count ≡ suc (a .left - (l .count + 1)) = omega arith in
     (omega arith, sym (count-more f (now (a .text)) (l .place .0) (l .count) (a .left - (l .count + 1)) (c .before .before .before .rule-at .ensures .0) (c .before .r .given .1)) ∙ (rw e at (l .inv .1)))
@@ -49,7 +49,7 @@ returns : tie.Need-returns Inv-loop μ-loop
 unfolding seenRules
 returns c =
     let l = (c .before .before .before .before .before .loop) in
-    let a = (c .before .before .before .before .before .before .before .args) in
+    let a = (c .before .before .before .before .before .before .before .before .args) in
     let f = faultBy (now (a .text)) (now (a .vars)) (a .n) (now (a .sizes)) in
     let e : a .left - l .count ≡ suc (a .left - (l .count + 1)) = omega arith in
     sym (count-close f (now (a .text)) (l .place .0) (l .count) (a .left - (l .count + 1)) (c .before .before .before .rule-at .ensures .0) (c .before .r2 .given .1)) ∙ (rw e at (l .inv .1))
@@ -61,7 +61,7 @@ returns-2 : tie.Need-returns-2 Inv-loop μ-loop
 unfolding seenRules
 returns-2 c =
     let l = (c .before .before .before .before .before .loop) in
-    let a = (c .before .before .before .before .before .before .before .args) in
+    let a = (c .before .before .before .before .before .before .before .before .args) in
     let f = faultBy (now (a .text)) (now (a .vars)) (a .n) (now (a .sizes)) in
     let e : a .left - l .count ≡ suc (a .left - (l .count + 1)) = omega arith in
     sym (count-refused f (now (a .text)) (l .place .0) (l .count) (a .left - (l .count + 1)) (c .before .before .before .rule-at .ensures .0) (c .before .r3 .given .1)) ∙ (rw e at (l .inv .1))
@@ -72,7 +72,7 @@ rules-end-requires c κs = search needs
 returns-3 : tie.Need-returns-3 Inv-loop μ-loop
 returns-3 c =
     let l = (c .before .before .loop) in
-    let a = (c .before .before .before .before .args) in
+    let a = (c .before .before .before .before .before .args) in
     let f = faultBy (now (a .text)) (now (a .vars)) (a .n) (now (a .sizes)) in
     let e : a .left - l .count ≡ 0 = omega arith in
     c .rules-end .ensures ∙ sym (count-end f (now (a .text)) (l .place .0) (l .count)) ∙ (rw e at (l .inv .1))

@@ -42,10 +42,10 @@ finish-requires c κs = search needs
 
 returns-2 : tie.Need-returns-2
 returns-2 c =
-    let c-r = c .before .before .before .r in
-    let c-find = c .before .before .before .before .before .find in
-    let c-args = c .before .before .before .before .before .before .before .before .before .args in
-    let c-pre = c .before .before .before .before .before .before .before .before .before .pre in
+    let c-r = c .before .before .before .before .r in
+    let c-find = c .before .before .before .before .before .before .find in
+    let c-args = c .before .before .before .before .before .before .before .before .before .before .args in
+    let c-pre = c .before .before .before .before .before .before .before .before .before .before .pre in
     let s = now (c-args .text) in
     let vs = env s (now (c-args .vars)) (c-args .n) in
     let q : Access = record { path = now (c-args .path); owner = c-args .owner } in

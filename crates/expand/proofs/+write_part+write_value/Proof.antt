@@ -108,19 +108,19 @@ write-part-named-requires t c κs = search needs
 
 write-part-returns : (t : ℕ) → write-part-lts.Need-returns (part-claims t) (write-part-at t) write-part.Post
 write-part-returns t c =
-    let c-args = c .before .before .before .before .before .before .before .args in
+    let c-args = c .before .before .before .before .before .before .before .before .args in
     let c-named = c .before .named in
     let c-p2 = c .before .before .before .p2 in
     let text = now (c-args .text) in
     rw (named-none text (now (c-args .vars)) (c-args .n) (c-named .result) (c-p2 .given .0 .0) (c-p2 .given .0 .1 .0) (c-named .ensures) (now (c-args .sizes)) (c-args .d) (c-args .p) (c-p2 .given .1) (c .if1 .taken))
-    (wrote-nil text (now (c-args .out)) (c-args .m) (c .before .before .before .before .before .before .before .pre .1 .0 .room))
+    (wrote-nil text (now (c-args .out)) (c-args .m) (c .before .before .before .before .before .before .before .before .pre .1 .0 .room))
 
 write-part-sub-pick-value : (t : ℕ) → write-part-lts.Need-sub-pick-value (part-claims t) (write-part-at t) write-part.Post
 write-part-sub-pick-value t c = search needs
 
 write-part-pick-value-requires : (t : ℕ) → write-part-lts.Need-pick-value-requires (part-claims t) (write-part-at t) write-part.Post
 write-part-pick-value-requires t c κs =
-    let c-args = c .before .before .before .before .before .before .before .args in
+    let c-args = c .before .before .before .before .before .before .before .before .args in
     let c-named = c .before .named in
     let c-p2 = c .before .before .before .p2 in
     omega (arith, named-le (now (c-args .text)) (now (c-args .vars)) (c-args .n) (c-named .result) (c-p2 .given .0 .0) (c-p2 .given .0 .1 .0) (c-named .ensures))
@@ -130,8 +130,8 @@ write-part-sub-write-value t c = search needs
 
 write-part-write-value-requires : (t : ℕ) → write-part-lts.Need-write-value-requires (part-claims t) (write-part-at t) write-part.Post
 write-part-write-value-requires t c κs =
-    let c-args = c .before .before .before .before .before .before .before .before .before .args in
-    let c-pre = c .before .before .before .before .before .before .before .before .before .pre in
+    let c-args = c .before .before .before .before .before .before .before .before .before .before .args in
+    let c-pre = c .before .before .before .before .before .before .before .before .before .before .pre in
     let c-named = c .before .before .before .named in
     let c-p2 = c .before .before .before .before .before .p2 in
     (omega (arith, c-pre .0, named-le (now (c-args .text)) (now (c-args .vars)) (c-args .n) (c-named .result) (c-p2 .given .0 .0) (c-p2 .given .0 .1 .0) (c-named .ensures), c .before .before .if1 .left), c-pre .1 .0)
@@ -145,8 +145,8 @@ write-part-same-length t c = search needs
 write-part-returns-2 : (t : ℕ) → write-part-lts.Need-returns-2 (part-claims t) (write-part-at t) write-part.Post
 write-part-returns-2 t c =
     let c-p = c .before .before .before .before .before .before .p in
-    let c-args = c .before .before .before .before .before .before .before .before .before .before .args in
-    let c-pre = c .before .before .before .before .before .before .before .before .before .before .pre in
+    let c-args = c .before .before .before .before .before .before .before .before .before .before .before .args in
+    let c-pre = c .before .before .before .before .before .before .before .before .before .before .before .pre in
     let c-piece-code = c .before .before .before .piece-code in
     let f : codeOf (c-p .given .0 .0) ≤ 65536 + length (now (c-args .text)) = rw (c-p .given .1) at (c-pre .1 .1) in
     let g : codeOf (c-p .given .0 .0) ≡ c-piece-code .result = sym (c-piece-code .ensures ∙ rw (lt-ltb (codeOf (c-p .given .0 .0)) 4294967296 (omega (arith, c-pre .1 .0 .short)))) in
@@ -157,7 +157,7 @@ write-part-same-length-2 t c = search needs
 
 write-part-returns-3 : (t : ℕ) → write-part-lts.Need-returns-3 (part-claims t) (write-part-at t) write-part.Post
 write-part-returns-3 t c =
-    let c-args = c .before .before .before .before .before .before .before .before .before .before .before .before .args in
+    let c-args = c .before .before .before .before .before .before .before .before .before .before .before .before .before .args in
     let c-named = c .before .before .before .before .before .before .named in
     let c-p2 = c .before .before .before .before .before .before .before .before .p2 in
     rw (named-some (now (c-args .text)) (now (c-args .vars)) (c-args .n) (c-named .result) (c-p2 .given .0 .0) (c-p2 .given .0 .1 .0) (c-named .ensures) (now (c-args .sizes)) (c-args .d) (c-args .p) (c-p2 .given .1) (omega (arith, c .before .before .before .before .before .if1 .left)), ← c .before .before .before .before .pick-value .ensures)
@@ -165,8 +165,8 @@ write-part-returns-3 t c =
 
 write-part-returns-4 : (t : ℕ) → write-part-lts.Need-returns-4 (part-claims t) (write-part-at t) write-part.Post
 write-part-returns-4 t c =
-    let c-args = c .before .before .before .before .args in
-    rw (c .enum-told .given .1) (wrote-nil (now (c-args .text)) (now (c-args .out)) (c-args .m) (c .before .before .before .before .pre .1 .0 .room))
+    let c-args = c .before .before .before .before .before .args in
+    rw (c .enum-told .given .1) (wrote-nil (now (c-args .text)) (now (c-args .out)) (c-args .m) (c .before .before .before .before .before .pre .1 .0 .room))
 
 abbrev write-value-Inv-loop : write-value-lts.InvT-loop
 write-value-Inv-loop n text vars sizes a e d out₀ m s left₀ w₀ at₀ out left w at =
@@ -179,7 +179,7 @@ write-value-span-requires : (t : ℕ) → write-value-lts.Need-span-requires (va
 write-value-span-requires t c κs = search needs
 
 write-value-loop-holds : (t : ℕ) → write-value-lts.Need-loop-holds (value-claims t) (write-value-at t) write-value.Post write-value-Inv-loop write-value-μ-loop
-write-value-loop-holds t c = rw (c .span .ensures) (writing-none (c .before .before .before .pre .1 .room))
+write-value-loop-holds t c = rw (c .span .ensures) (writing-none (c .before .before .before .before .pre .1 .room))
 
 write-value-part-at-requires : (t : ℕ) → write-value-lts.Need-part-at-requires (value-claims t) (write-value-at t) write-value.Post write-value-Inv-loop write-value-μ-loop
 write-value-part-at-requires t c κs = search needs
@@ -193,7 +193,7 @@ write-value-low-requires t c κs = search needs
 write-value-write-part-requires : (t : ℕ) → write-value-lts.Need-write-part-requires (value-claims t) (write-value-at t) write-value.Post write-value-Inv-loop write-value-μ-loop
 write-value-write-part-requires t c κs =
     let c-loop = c .before .before .before .before .before .loop in
-    let c-pre = c .before .before .before .before .before .before .before .before .before .pre in
+    let c-pre = c .before .before .before .before .before .before .before .before .before .before .pre in
     (omega (arith, c-pre .0), (record { short = c-pre .1 .short; room = omega (arith, c-loop .inv .wrote .size, c-loop .inv .wrote .fits) }, c .before .before .before .part-at .ensures .fits))
 
 write-value-high-requires : (t : ℕ) → write-value-lts.Need-high-requires (value-claims t) (write-value-at t) write-value.Post write-value-Inv-loop write-value-μ-loop
@@ -211,7 +211,7 @@ write-value-loop-less t c =
 write-value-loop-again : (t : ℕ) → write-value-lts.Need-loop-again (value-claims t) (write-value-at t) write-value.Post write-value-Inv-loop write-value-μ-loop
 write-value-loop-again t c =
     let c-loop = c .before .before .before .before .before .before .before .before .before .before .loop in
-    let c-args = c .before .before .before .before .before .before .before .before .before .before .before .before .before .before .args in
+    let c-args = c .before .before .before .before .before .before .before .before .before .before .before .before .before .before .before .args in
     let c-part-at = c .before .before .before .before .before .before .before .before .part-at in
     let c-part-end = c .part-end in
     let c-span = c .before .before .before .before .before .before .before .before .before .before .before .span in
@@ -231,7 +231,7 @@ write-value-same-length t c = search needs
 write-value-returns : (t : ℕ) → write-value-lts.Need-returns (value-claims t) (write-value-at t) write-value.Post write-value-Inv-loop write-value-μ-loop
 write-value-returns t c =
     let c-loop = c .before .loop in
-    let c-args = c .before .before .before .before .before .args in
+    let c-args = c .before .before .before .before .before .before .args in
     let names = nameBy (now (c-args .text)) (now (c-args .vars)) (now (c-args .sizes)) (min 32 (c-args .n)) in
     writing-all _ (c-loop .inv) (parts-last numbering names (now (c .before .before .span .result)) (c-loop .at) (search needs))
 

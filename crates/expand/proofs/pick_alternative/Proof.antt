@@ -30,13 +30,13 @@ seek-requires c κs = search needs
 
 add-start : tie.Need-add-start Inv-loop μ-loop
 add-start c =
-    let c-args = c .before .before .before .before .args in
+    let c-args = c .before .before .before .before .before .args in
     let c-loop = c .before .loop in
     omega (arith, span-most (now (c-args .text)) (c-args .a) (c-args .e) (c-loop .i) (rw (← c .before .before .span .ensures) (c-loop .inv .0)))
 
 add-end : tie.Need-add-end Inv-loop μ-loop
 add-end c =
-    let c-args = c .before .before .before .before .args in
+    let c-args = c .before .before .before .before .before .args in
     let c-seek = c .seek in
     let c-span = c .before .before .span in
     let c-loop = c .before .loop in
@@ -50,7 +50,7 @@ returns c =
     let c-seek = c .before .before .seek in
     let c-loop = c .before .before .before .loop in
     let c-span = c .before .before .before .before .span in
-    let c-args = c .before .before .before .before .before .before .args in
+    let c-args = c .before .before .before .before .before .before .before .args in
     let s = now (c-span .result) in
     let names = nameBy (now (c-args .text)) (now (c-args .vars)) (now (c-args .sizes)) (min 32 (c-args .n)) in
     let j : c-seek .result ≤ length s = omega (arith, c-seek .ensures, seek-le 44 s (c-loop .i) (c-loop .inv .0)) in
@@ -61,7 +61,7 @@ returns-2 c =
     let c-seek = c .before .before .before .seek in
     let c-loop = c .before .before .before .before .loop in
     let c-span = c .before .before .before .before .before .span in
-    let c-args = c .before .before .before .before .before .before .before .args in
+    let c-args = c .before .before .before .before .before .before .before .before .args in
     let s = now (c-span .result) in
     let names = nameBy (now (c-args .text)) (now (c-args .vars)) (now (c-args .sizes)) (min 32 (c-args .n)) in
     let j : c-seek .result ≤ length s = omega (arith, c-seek .ensures, seek-le 44 s (c-loop .i) (c-loop .inv .0)) in
@@ -80,7 +80,7 @@ loop-again c =
     let c-seek = c .before .before .before .seek in
     let c-loop = c .before .before .before .before .loop in
     let c-span = c .before .before .before .before .before .span in
-    let c-args = c .before .before .before .before .before .before .before .args in
+    let c-args = c .before .before .before .before .before .before .before .before .args in
     let s = now (c-span .result) in
     let names = nameBy (now (c-args .text)) (now (c-args .vars)) (now (c-args .sizes)) (min 32 (c-args .n)) in
     let j : c-seek .result ≤ length s = omega (arith, c-seek .ensures, seek-le 44 s (c-loop .i) (c-loop .inv .0)) in

@@ -19,7 +19,7 @@ part-at-requires : tie.Need-part-at-requires
 part-at-requires c κs = search needs
 
 write-part-requires : tie.Need-write-part-requires
-write-part-requires c κs = (c .before .before .before .before .before .before .before .pre, c .before .part-at .ensures .fits)
+write-part-requires c κs = (c .before .before .before .before .before .before .before .before .pre, c .before .part-at .ensures .fits)
 
 enum-known-i : tie.Need-enum-known-i
 enum-known-i c = search needs
@@ -35,7 +35,7 @@ same-length c = search needs
 
 returns : tie.Need-returns
 returns c =
-    let c-args = c .before .before .before .before .before .before .before .before .before .before .args in
+    let c-args = c .before .before .before .before .before .before .before .before .before .before .before .args in
     let c-item-at = c .before .before .before .before .before .before .before .item-at in
     let c-part-at = c .before .before .before .before .part-at in
     let text = now (c-args .text) in
@@ -49,7 +49,7 @@ same-length-2 c = search needs
 
 returns-2 : tie.Need-returns-2
 returns-2 c =
-    let c-args = c .before .before .before .before .before .before .before .before .before .before .before .args in
+    let c-args = c .before .before .before .before .before .before .before .before .before .before .before .before .args in
     let c-item-at = c .before .before .before .before .before .before .before .before .item-at in
     let text = now (c-args .text) in
     rw (item-read text (span text (c-args .a) (c-args .e)) (c-args .at) (c-item-at .result) _ (c-item-at .ensures) (c .before .before .before .before .before .before .i .given .1), ← c .before .before .before .before .pick-alternative .ensures)

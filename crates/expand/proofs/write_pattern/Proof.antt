@@ -58,7 +58,7 @@ loop-less c =
 
 loop-again : tie.Need-loop-again Inv-loop μ-loop
 loop-again c =
-    let c-args = c .before .before .before .before .before .before .before .before .before .before .before .before .before .before .before .args in
+    let c-args = c .before .before .before .before .before .before .before .before .before .before .before .before .before .before .before .before .args in
     let c-loop = c .before .before .before .before .before .before .before .before .before .before .loop in
     let c-item-at = c .before .before .before .before .before .before .before .before .item-at in
     let c-item-end = c .item-end in
@@ -78,12 +78,12 @@ same-length c = search needs
 
 returns : tie.Need-returns Inv-loop μ-loop
 returns c =
-    let c-args = c .before .before .before .args in
+    let c-args = c .before .before .before .before .args in
     written-none (now (c-args .text)) (now (c-args .out)) _ (omega (arith, c .if1 .taken))
 
 returns-2 : tie.Need-returns-2 Inv-loop μ-loop
 returns-2 c =
-    let c-args = c .before .before .before .before .before .before .args in
+    let c-args = c .before .before .before .before .before .before .before .args in
     let c-loop = c .before .loop in
     let names = nameBy (now (c-args .text)) (now (c-args .vars)) (now (c-args .sizes)) (min 32 (c-args .n)) in
     written-all (now (c-args .text)) (omega (arith, c .before .before .before .if1 .left))

@@ -25,22 +25,22 @@ span-requires : tie.Need-span-requires Inv-loop μ-loop
 span-requires c κs = search needs
 
 loop-holds : tie.Need-loop-holds Inv-loop μ-loop
-loop-holds c = (omega arith, ap (λ (l : List ℕ). every (valueNames (isSet (env (now (c .before .before .args .text)) (now (c .before .before .args .vars)) (c .before .before .args .n)))) (alternatives l)) (c .span .ensures))
+loop-holds c = (omega arith, ap (λ (l : List ℕ). every (valueNames (isSet (env (now (c .before .before .before .args .text)) (now (c .before .before .before .args .vars)) (c .before .before .before .args .n)))) (alternatives l)) (c .span .ensures))
 
 seek-requires : tie.Need-seek-requires Inv-loop μ-loop
 seek-requires c κs = search needs
 
 add-value-names : tie.Need-add-value-names Inv-loop μ-loop
-add-value-names c = omega (arith, c .before .loop .inv .0, ap length (c .before .before .span .ensures), length-span (now (c .before .before .before .before .args .text)) (c .before .before .before .before .args .a) (c .before .before .before .before .args .e))
+add-value-names c = omega (arith, c .before .loop .inv .0, ap length (c .before .before .span .ensures), length-span (now (c .before .before .before .before .before .args .text)) (c .before .before .before .before .before .args .a) (c .before .before .before .before .before .args .e))
 
 add-value-names-2 : tie.Need-add-value-names-2 Inv-loop μ-loop
-add-value-names-2 c = omega (arith, c .before .loop .inv .0, c .seek .ensures, seek-le 44 (now (c .before .before .span .result)) (c .before .loop .i) (c .before .loop .inv .0), ap length (c .before .before .span .ensures), length-span (now (c .before .before .before .before .args .text)) (c .before .before .before .before .args .a) (c .before .before .before .before .args .e))
+add-value-names-2 c = omega (arith, c .before .loop .inv .0, c .seek .ensures, seek-le 44 (now (c .before .before .span .result)) (c .before .loop .i) (c .before .loop .inv .0), ap length (c .before .before .span .ensures), length-span (now (c .before .before .before .before .before .args .text)) (c .before .before .before .before .before .args .a) (c .before .before .before .before .before .args .e))
 
 value-names-requires : tie.Need-value-names-requires Inv-loop μ-loop
 value-names-requires c κs = search needs
 
 returns : tie.Need-returns Inv-loop μ-loop
-returns c = c .before .value-names .ensures ∙ sym (every-last (valueNames (isSet (env (now (c .before .before .before .before .before .before .args .text)) (now (c .before .before .before .before .before .before .args .vars)) (c .before .before .before .before .before .before .args .n)))) (now (c .before .before .before .before .before .before .args .text)) (now (c .before .before .before .before .span .result)) (c .before .before .before .before .before .before .args .a) (c .before .before .before .before .before .before .args .e) (c .before .before .before .loop .i) (c .before .before .seek .result) (c .before .before .before .before .span .ensures) (c .before .before .seek .ensures) (omega (arith, c .before .before .seek .ensures, seek-le 44 (now (c .before .before .before .before .span .result)) (c .before .before .before .loop .i) (c .before .before .before .loop .inv .0))) (c .if1 .taken)) ∙ c .before .before .before .loop .inv .1
+returns c = c .before .value-names .ensures ∙ sym (every-last (valueNames (isSet (env (now (c .before .before .before .before .before .before .before .args .text)) (now (c .before .before .before .before .before .before .before .args .vars)) (c .before .before .before .before .before .before .before .args .n)))) (now (c .before .before .before .before .before .before .before .args .text)) (now (c .before .before .before .before .span .result)) (c .before .before .before .before .before .before .before .args .a) (c .before .before .before .before .before .before .before .args .e) (c .before .before .before .loop .i) (c .before .before .seek .result) (c .before .before .before .before .span .ensures) (c .before .before .seek .ensures) (omega (arith, c .before .before .seek .ensures, seek-le 44 (now (c .before .before .before .before .span .result)) (c .before .before .before .loop .i) (c .before .before .before .loop .inv .0))) (c .if1 .taken)) ∙ c .before .before .before .loop .inv .1
 
 add-i : tie.Need-add-i Inv-loop μ-loop
 add-i c = search needs
@@ -49,10 +49,10 @@ loop-less : tie.Need-loop-less Inv-loop μ-loop
 loop-less c = omega (arith, c .before .before .before .seek .ensures)
 
 loop-again : tie.Need-loop-again Inv-loop μ-loop
-loop-again c = (omega arith, sym (every-more (valueNames (isSet (env (now (c .before .before .before .before .before .before .before .args .text)) (now (c .before .before .before .before .before .before .before .args .vars)) (c .before .before .before .before .before .before .before .args .n)))) (now (c .before .before .before .before .before .before .before .args .text)) (now (c .before .before .before .before .before .span .result)) (c .before .before .before .before .before .before .before .args .a) (c .before .before .before .before .before .before .before .args .e) (c .before .before .before .before .loop .i) (c .before .before .before .seek .result) (c .before .before .before .before .before .span .ensures) (c .before .before .before .seek .ensures) (omega (arith, c .before .before .before .seek .ensures, seek-le 44 (now (c .before .before .before .before .before .span .result)) (c .before .before .before .before .loop .i) (c .before .before .before .before .loop .inv .0))) (c .before .if1 .left) (sym (c .before .before .value-names .ensures) ∙ c .if2 .taken)) ∙ c .before .before .before .before .loop .inv .1)
+loop-again c = (omega arith, sym (every-more (valueNames (isSet (env (now (c .before .before .before .before .before .before .before .before .args .text)) (now (c .before .before .before .before .before .before .before .before .args .vars)) (c .before .before .before .before .before .before .before .before .args .n)))) (now (c .before .before .before .before .before .before .before .before .args .text)) (now (c .before .before .before .before .before .span .result)) (c .before .before .before .before .before .before .before .before .args .a) (c .before .before .before .before .before .before .before .before .args .e) (c .before .before .before .before .loop .i) (c .before .before .before .seek .result) (c .before .before .before .before .before .span .ensures) (c .before .before .before .seek .ensures) (omega (arith, c .before .before .before .seek .ensures, seek-le 44 (now (c .before .before .before .before .before .span .result)) (c .before .before .before .before .loop .i) (c .before .before .before .before .loop .inv .0))) (c .before .if1 .left) (sym (c .before .before .value-names .ensures) ∙ c .if2 .taken)) ∙ c .before .before .before .before .loop .inv .1)
 
 returns-2 : tie.Need-returns-2 Inv-loop μ-loop
-returns-2 c = sym (every-stop (valueNames (isSet (env (now (c .before .before .before .before .before .before .before .args .text)) (now (c .before .before .before .before .before .before .before .args .vars)) (c .before .before .before .before .before .before .before .args .n)))) (now (c .before .before .before .before .before .before .before .args .text)) (now (c .before .before .before .before .before .span .result)) (c .before .before .before .before .before .before .before .args .a) (c .before .before .before .before .before .before .before .args .e) (c .before .before .before .before .loop .i) (c .before .before .before .seek .result) (c .before .before .before .before .before .span .ensures) (c .before .before .before .seek .ensures) (omega (arith, c .before .before .before .seek .ensures, seek-le 44 (now (c .before .before .before .before .before .span .result)) (c .before .before .before .before .loop .i) (c .before .before .before .before .loop .inv .0))) (c .before .if1 .left) (sym (c .before .before .value-names .ensures) ∙ c .if2 .left)) ∙ c .before .before .before .before .loop .inv .1
+returns-2 c = sym (every-stop (valueNames (isSet (env (now (c .before .before .before .before .before .before .before .before .args .text)) (now (c .before .before .before .before .before .before .before .before .args .vars)) (c .before .before .before .before .before .before .before .before .args .n)))) (now (c .before .before .before .before .before .before .before .before .args .text)) (now (c .before .before .before .before .before .span .result)) (c .before .before .before .before .before .before .before .before .args .a) (c .before .before .before .before .before .before .before .before .args .e) (c .before .before .before .before .loop .i) (c .before .before .before .seek .result) (c .before .before .before .before .before .span .ensures) (c .before .before .before .seek .ensures) (omega (arith, c .before .before .before .seek .ensures, seek-le 44 (now (c .before .before .before .before .before .span .result)) (c .before .before .before .before .loop .i) (c .before .before .before .before .loop .inv .0))) (c .before .if1 .left) (sym (c .before .before .value-names .ensures) ∙ c .if2 .left)) ∙ c .before .before .before .before .loop .inv .1
 
 pub alternatives-names-spec : {M : Type 1} → statement M
 alternatives-names-spec =

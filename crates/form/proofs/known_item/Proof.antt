@@ -22,10 +22,10 @@ alternatives-names-requires : tie.Need-alternatives-names-requires
 alternatives-names-requires c κs = search needs
 
 returns : tie.Need-returns
-returns c = c .known-part .ensures ∙ sym (ap (λ (r : ItemRead). namesItem (isSet (env (now (c .before .before .before .before .before .args .text)) (now (c .before .before .before .before .before .args .vars)) (c .before .before .before .before .before .args .n))) (seenItem (now (c .before .before .before .before .before .args .text)) r)) (c .before .before .p .given .1))
+returns c = c .known-part .ensures ∙ sym (ap (λ (r : ItemRead). namesItem (isSet (env (now (c .before .before .before .before .before .before .args .text)) (now (c .before .before .before .before .before .before .args .vars)) (c .before .before .before .before .before .before .args .n))) (seenItem (now (c .before .before .before .before .before .before .args .text)) r)) (c .before .before .p .given .1))
 
 returns-2 : tie.Need-returns-2
-returns-2 c = c .alternatives-names .ensures ∙ sym (ap (λ (r : ItemRead). namesItem (isSet (env (now (c .before .before .before .before .before .args .text)) (now (c .before .before .before .before .before .args .vars)) (c .before .before .before .before .before .args .n))) (seenItem (now (c .before .before .before .before .before .args .text)) r)) (c .before .before .p2 .given .1))
+returns-2 c = c .alternatives-names .ensures ∙ sym (ap (λ (r : ItemRead). namesItem (isSet (env (now (c .before .before .before .before .before .before .args .text)) (now (c .before .before .before .before .before .before .args .vars)) (c .before .before .before .before .before .before .args .n))) (seenItem (now (c .before .before .before .before .before .before .args .text)) r)) (c .before .before .p2 .given .1))
 
 pub known-item-spec : {M : Type 1} → statement M
 known-item-spec =

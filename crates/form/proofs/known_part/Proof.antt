@@ -25,13 +25,13 @@ enum-told-2 : tie.Need-enum-told-2
 enum-told-2 c = search needs
 
 returns : tie.Need-returns
-returns c = sym (ap (λ (r : PartRead). namesPart (isSet (env (now (c .before .before .before .args .text)) (now (c .before .before .before .args .vars)) (c .before .before .before .args .n))) (seenPart (now (c .before .before .before .args .text)) r)) (c .enum-told .given .1))
+returns c = sym (ap (λ (r : PartRead). namesPart (isSet (env (now (c .before .before .before .before .args .text)) (now (c .before .before .before .before .args .vars)) (c .before .before .before .before .args .n))) (seenPart (now (c .before .before .before .before .args .text)) r)) (c .enum-told .given .1))
 
 returns-2 : tie.Need-returns-2
-returns-2 c = rw (c .named .ensures) (sym (number-set (now (c .before .before .before .before .before .args .text)) (now (c .before .before .before .before .before .args .vars)) (span (now (c .before .before .before .before .before .args .text)) (c .before .before .p .given .0 .0) (c .before .before .p .given .0 .1 .0)) (min 32 (c .before .before .before .before .before .args .n)))) ∙ sym (ap (λ (r : PartRead). namesPart (isSet (env (now (c .before .before .before .before .before .args .text)) (now (c .before .before .before .before .before .args .vars)) (c .before .before .before .before .before .args .n))) (seenPart (now (c .before .before .before .before .before .args .text)) r)) (c .before .before .p .given .1))
+returns-2 c = rw (c .named .ensures) (sym (number-set (now (c .before .before .before .before .before .before .args .text)) (now (c .before .before .before .before .before .before .args .vars)) (span (now (c .before .before .before .before .before .before .args .text)) (c .before .before .p .given .0 .0) (c .before .before .p .given .0 .1 .0)) (min 32 (c .before .before .before .before .before .before .args .n)))) ∙ sym (ap (λ (r : PartRead). namesPart (isSet (env (now (c .before .before .before .before .before .before .args .text)) (now (c .before .before .before .before .before .before .args .vars)) (c .before .before .before .before .before .before .args .n))) (seenPart (now (c .before .before .before .before .before .before .args .text)) r)) (c .before .before .p .given .1))
 
 returns-3 : tie.Need-returns-3
-returns-3 c = sym (ap (λ (r : PartRead). namesPart (isSet (env (now (c .before .before .before .args .text)) (now (c .before .before .before .args .vars)) (c .before .before .before .args .n))) (seenPart (now (c .before .before .before .args .text)) r)) (c .enum-told2 .given .1))
+returns-3 c = sym (ap (λ (r : PartRead). namesPart (isSet (env (now (c .before .before .before .before .args .text)) (now (c .before .before .before .before .args .vars)) (c .before .before .before .before .args .n))) (seenPart (now (c .before .before .before .before .args .text)) r)) (c .enum-told2 .given .1))
 
 pub known-part-spec : {M : Type 1} → statement M
 known-part-spec =

@@ -29,7 +29,7 @@ literal-end-requires c κs = search needs
 
 loop-holds : tie.Need-loop-holds Inv-loop μ-loop
 loop-holds c =
-    let a = (c .before .before .before .args) in
+    let a = (c .before .before .before .before .args) in
     let s = (c .before .span) in
     sym (items-literals (namesItem (isSet (env (now (a .text)) (now (a .vars)) (a .n)))) (λ b. refl) (now (s .result)) 0 (c .literal-end .result) (c .literal-end .ensures))
     ∙ ap (λ (t : List ℕ). every (namesItem (isSet (env (now (a .text)) (now (a .vars)) (a .n)))) (items 0 t)) (s .ensures)
@@ -54,7 +54,7 @@ loop-less c =
 
 loop-again : tie.Need-loop-again Inv-loop μ-loop
 loop-again c =
-    let a = (c .before .before .before .before .before .before .before .before .before .before .args) in
+    let a = (c .before .before .before .before .before .before .before .before .before .before .before .args) in
     let s = (c .before .before .before .before .before .before .before .before .span) in
     let l = (c .before .before .before .before .before .before .loop) in
     items-more (namesItem (isSet (env (now (a .text)) (now (a .vars)) (a .n)))) (λ b. refl) (now (s .result)) (span (now (a .text)) (a .a) (a .e)) (s .ensures) (l .i) (seenItem (now (a .text)) (c .before .before .before .before .item-at .result)) (c .before .before .before .before .item-at .ensures)
@@ -63,7 +63,7 @@ loop-again c =
 returns : tie.Need-returns Inv-loop μ-loop
 unfolding patternNames
 returns c =
-    let a = (c .before .before .before .before .before .before .before .before .args) in
+    let a = (c .before .before .before .before .before .before .before .before .before .args) in
     let s = (c .before .before .before .before .before .before .span) in
     let l = (c .before .before .before .before .loop) in
     items-stop (namesItem (isSet (env (now (a .text)) (now (a .vars)) (a .n)))) (λ b. refl) (now (s .result)) (span (now (a .text)) (a .a) (a .e)) (s .ensures) (l .i) (seenItem (now (a .text)) (c .before .before .item-at .result)) (c .before .before .item-at .ensures)
@@ -72,7 +72,7 @@ returns c =
 returns-2 : tie.Need-returns-2 Inv-loop μ-loop
 unfolding patternNames
 returns-2 c =
-    let a = (c .before .before .before .before .before .args) in
+    let a = (c .before .before .before .before .before .before .args) in
     let s = (c .before .before .before .span) in
     let l = (c .before .loop) in
     items-all (namesItem (isSet (env (now (a .text)) (now (a .vars)) (a .n)))) (λ b. refl) (now (s .result)) (l .i) (omega arith) (l .inv)

@@ -30,7 +30,7 @@ literal-end-requires c κs = search needs
 
 loop-holds : tie.Need-loop-holds Inv-loop μ-loop
 loop-holds c =
-    let a = (c .before .before .before .args) in
+    let a = (c .before .before .before .before .args) in
     let s = (c .before .span) in
     sym (parts-literals (namesPart (isSet (env (now (a .text)) (now (a .vars)) (a .n)))) (λ b. refl) (now (s .result)) 0 (c .literal-end .result) (c .literal-end .ensures))
     ∙ ap (λ (t : List ℕ). every (namesPart (isSet (env (now (a .text)) (now (a .vars)) (a .n)))) (parts 0 t)) (s .ensures)
@@ -55,7 +55,7 @@ loop-less c =
 
 loop-again : tie.Need-loop-again Inv-loop μ-loop
 loop-again c =
-    let a = (c .before .before .before .before .before .before .before .before .before .before .args) in
+    let a = (c .before .before .before .before .before .before .before .before .before .before .before .args) in
     let s = (c .before .before .before .before .before .before .before .before .span) in
     let l = (c .before .before .before .before .before .before .loop) in
     parts-more (namesPart (isSet (env (now (a .text)) (now (a .vars)) (a .n)))) (λ b. refl) (now (s .result)) (span (now (a .text)) (a .a) (a .e)) (s .ensures) (l .i) (seenPart (now (a .text)) (c .before .before .before .before .part-at .result)) (c .before .before .before .before .part-at .ensures .is)
@@ -64,7 +64,7 @@ loop-again c =
 returns : tie.Need-returns Inv-loop μ-loop
 unfolding valueNames
 returns c =
-    let a = (c .before .before .before .before .before .before .before .before .args) in
+    let a = (c .before .before .before .before .before .before .before .before .before .args) in
     let s = (c .before .before .before .before .before .before .span) in
     let l = (c .before .before .before .before .loop) in
     parts-stop (namesPart (isSet (env (now (a .text)) (now (a .vars)) (a .n)))) (λ b. refl) (now (s .result)) (span (now (a .text)) (a .a) (a .e)) (s .ensures) (l .i) (seenPart (now (a .text)) (c .before .before .part-at .result)) (c .before .before .part-at .ensures .is)
@@ -73,7 +73,7 @@ returns c =
 returns-2 : tie.Need-returns-2 Inv-loop μ-loop
 unfolding valueNames
 returns-2 c =
-    let a = (c .before .before .before .before .before .args) in
+    let a = (c .before .before .before .before .before .before .args) in
     let s = (c .before .before .before .span) in
     let l = (c .before .loop) in
     parts-all (namesPart (isSet (env (now (a .text)) (now (a .vars)) (a .n)))) (λ b. refl) (now (s .result)) (l .i) (omega arith) (l .inv)

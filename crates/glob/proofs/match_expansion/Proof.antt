@@ -20,9 +20,9 @@ matched-requires c κs = search needs
 
 returns : tie.Need-returns
 returns c =
-    let c-args = c .before .before .before .before .before .before .before .before .before .before .before .before .args in
+    let c-args = c .before .before .before .before .before .before .before .before .before .before .before .before .before .args in
     let text = now (c-args .text) in
-    expansion-matched text (now (c-args .path)) _ (c .before .before .before .before .before .before .before .before .before .before .before .before .pre) (c .before .before .before .before .before .before .before .before .write-pattern .ensures) (omega arith)
+    expansion-matched text (now (c-args .path)) _ (c .before .before .before .before .before .before .before .before .before .before .before .before .before .pre) (c .before .before .before .before .before .before .before .before .write-pattern .ensures) (omega arith)
     (c .before .before .before .before .before .is-literal .ensures text) (joins-decode text (c .before .before .before .join-slashes .ensures)) (c .matched .ensures)
 
 pub match-expansion-spec : {M : Type 1} → statement M

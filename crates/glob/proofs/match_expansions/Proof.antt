@@ -21,7 +21,7 @@ pattern-size-requires c κs = search needs
 
 loop-holds : tie.Need-loop-holds Inv-loop μ-loop
 loop-holds c =
-    let c-args = c .before .before .before .args in
+    let c-args = c .before .before .before .before .args in
     let a = patternBy (now (c-args .text)) (now (c-args .vars)) (c-args .n) (now (c-args .sizes)) (span (now (c-args .text)) (c-args .a) (c-args .e)) in
     (tried-none a (now (c-args .path)), search needs)
 
@@ -30,7 +30,7 @@ match-expansion-requires c κs = search needs
 
 returns : tie.Need-returns Inv-loop μ-loop
 returns c =
-    let c-args = c .before .before .before .before .before .before .before .before .args in
+    let c-args = c .before .before .before .before .before .before .before .before .before .args in
     let a = patternBy (now (c-args .text)) (now (c-args .vars)) (c-args .n) (now (c-args .sizes)) (span (now (c-args .text)) (c-args .a) (c-args .e)) in
     rw (← c .before .before .before .before .before .pattern-size .ensures) (tried-found a (now (c-args .path)) (c .before .match-expansion .ensures) (c .before .before .before .before .before .pattern-size .result .count) (search needs) (c .if1 .taken))
 
@@ -42,13 +42,13 @@ loop-less c = search needs
 
 loop-again : tie.Need-loop-again Inv-loop μ-loop
 loop-again c =
-    let c-args = c .before .before .before .before .before .before .before .before .before .args in
+    let c-args = c .before .before .before .before .before .before .before .before .before .before .args in
     let a = patternBy (now (c-args .text)) (now (c-args .vars)) (c-args .n) (now (c-args .sizes)) (span (now (c-args .text)) (c-args .a) (c-args .e)) in
     (tried-more a (now (c-args .path)) (c .before .before .match-expansion .ensures) (c .before .before .before .before .before .loop .inv .0) (c .before .if1 .left), omega arith)
 
 returns-2 : tie.Need-returns-2 Inv-loop μ-loop
 returns-2 c =
-    let c-args = c .before .before .before .before .before .args in
+    let c-args = c .before .before .before .before .before .before .args in
     let a = patternBy (now (c-args .text)) (now (c-args .vars)) (c-args .n) (now (c-args .sizes)) (span (now (c-args .text)) (c-args .a) (c-args .e)) in
     let e = ap (λ (z : Size). z .count) (c .before .before .pattern-size .ensures) in
     tried-all a (now (c-args .path)) (c .before .loop .inv .0) (a .size .count) (omega arith)

@@ -32,13 +32,13 @@ seek-requires c κs = search needs
 
 add-value-size : tie.Need-add-value-size Inv-loop μ-loop
 add-value-size c =
-    let c-args = c .before .before .before .before .before .args in
+    let c-args = c .before .before .before .before .before .before .args in
     let c-loop = c .before .loop in
     omega (arith, span-most (now (c-args .text)) (c-args .a) (c-args .e) (c-loop .i) (rw (← c .before .before .before .span .ensures) (c-loop .inv .0)))
 
 add-value-size-2 : tie.Need-add-value-size-2 Inv-loop μ-loop
 add-value-size-2 c =
-    let c-args = c .before .before .before .before .before .args in
+    let c-args = c .before .before .before .before .before .before .args in
     let c-seek = c .seek in
     let c-span = c .before .before .before .span in
     let c-loop = c .before .loop in
@@ -55,7 +55,7 @@ returns c =
     let c-seek = c .before .before .before .seek in
     let c-span = c .before .before .before .before .before .before .span in
     let c-loop = c .before .before .before .before .loop in
-    let c-args = c .before .before .before .before .before .before .before .before .args in
+    let c-args = c .before .before .before .before .before .before .before .before .before .args in
     let j : c-seek .result ≤ length (now (c-span .result)) = omega (arith, c-seek .ensures, seek-le 44 (now (c-span .result)) (c-loop .i) (c-loop .inv .0)) in
     alternative-all (nameBy (now (c-args .text)) (now (c-args .vars)) (now (c-args .sizes)) (min 32 (c-args .n))) (now (c-args .text)) (c-args .a) (c-args .e) (now (c-span .result)) (c-span .ensures) (c-loop .i) (c-seek .result) (c-seek .ensures) j (c-loop .inv .1) (c .before .before .value-size .ensures) (c .before .plus .ensures) (search needs)
     ∙ ap (λ (l : List ℕ). oneBy (now (c-args .text)) (now (c-args .vars)) (c-args .n) (now (c-args .sizes)) (alternatives l) .size) (c-span .ensures)
@@ -73,7 +73,7 @@ loop-again c =
     let c-seek = c .before .before .before .seek in
     let c-span = c .before .before .before .before .before .before .span in
     let c-loop = c .before .before .before .before .loop in
-    let c-args = c .before .before .before .before .before .before .before .before .args in
+    let c-args = c .before .before .before .before .before .before .before .before .before .args in
     let j : c-seek .result ≤ length (now (c-span .result)) = omega (arith, c-seek .ensures, seek-le 44 (now (c-span .result)) (c-loop .i) (c-loop .inv .0)) in (
       omega arith,
       alternative-more (nameBy (now (c-args .text)) (now (c-args .vars)) (now (c-args .sizes)) (min 32 (c-args .n))) (now (c-args .text)) (c-args .a) (c-args .e) (now (c-span .result)) (c-span .ensures) (c-loop .i) (c-seek .result) (c-seek .ensures) j (c-loop .inv .1) (c .before .before .value-size .ensures) (c .before .plus .ensures) (search needs),

@@ -23,7 +23,7 @@ named-requires : tie.Need-named-requires
 named-requires c κs = search needs
 
 size-at-requires : tie.Need-size-at-requires
-size-at-requires c κs = let c-args = (c .before .before .before .before .before .args) in
+size-at-requires c κs = let c-args = (c .before .before .before .before .before .before .args) in
     let c-p2 = (c .before .before .p2) in
     omega (arith, c .named .ensures, number-le (now (c-args .text)) (now (c-args .vars)) (span (now (c-args .text)) (c-p2 .given .0 .0) (c-p2 .given .0 .1 .0)) (min 32 (c-args .n)))
 
@@ -35,11 +35,11 @@ no-size-requires c κs = search needs
 
 returns : tie.Need-returns
 returns c = let c-p = (c .before .before .p) in
-    rw (c-p .given .1) (size-eq refl refl refl (c .is-slash .ensures (now (c .before .before .before .before .before .args .text))))
+    rw (c-p .given .1) (size-eq refl refl refl (c .is-slash .ensures (now (c .before .before .before .before .before .before .args .text))))
 
 returns-2 : tie.Need-returns-2
 returns-2 c = let c-p2 = (c .before .before .before .p2) in
-    let c-args = (c .before .before .before .before .before .before .args) in
+    let c-args = (c .before .before .before .before .before .before .before .args) in
     rw (c-p2 .given .1)
     (name-size (now (c-args .text)) (now (c-args .vars)) (now (c-args .sizes)) (min 32 (c-args .n)) (span (now (c-args .text)) (c-p2 .given .0 .0) (c-p2 .given .0 .1 .0)) (c .size-at .ensures) (c .before .named .ensures))
 

@@ -25,7 +25,7 @@ least-requires : tie.Need-least-requires Inv-loop μ-loop
 least-requires c κs = search needs
 
 loop-holds : tie.Need-loop-holds Inv-loop μ-loop
-loop-holds c = let c-args = (c .before .before .before .before .before .args) in
+loop-holds c = let c-args = (c .before .before .before .before .before .before .args) in
     let e = c .before .put-size .ensures in
     (omega arith, ap length e ∙ length-put _ 0 _, rw e (known-zero (now (c-args .text)) (now (c-args .vars)) _ (c .before .before .no-size .result) (c .before .before .no-size .ensures) (omega arith)))
 
@@ -45,7 +45,7 @@ loop-less : tie.Need-loop-less Inv-loop μ-loop
 loop-less c = search needs
 
 loop-again : tie.Need-loop-again Inv-loop μ-loop
-loop-again c = let c-args = (c .before .before .before .before .before .before .before .before .before .before .before .args) in
+loop-again c = let c-args = (c .before .before .before .before .before .before .before .before .before .before .before .before .args) in
     let c-loop = (c .before .before .before .before .before .loop) in
     let e = c .put-size2 .ensures in
     let size = (c .before .before .variable-size) in

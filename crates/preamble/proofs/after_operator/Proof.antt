@@ -17,7 +17,7 @@ refused-at-requires c κs = search needs
 returns : tie.Need-returns
 returns c =
     let c-name-fault = c .before .before .name-fault in
-    let c-args = c .before .before .before .before .before .args in
+    let c-args = c .before .before .before .before .before .before .args in
     c .refused-at .ensures _ _ ∙ sym (operator-fault (env (now (c-args .text)) (now (c-args .vars)) (c-args .n)) (now (c-args .text)) (span (now (c-args .text)) (c-args .start) (c-args .end)) (c-args .start) (c-args .sign) (record { adds = c-args .adds; next = c-args .next .0 }) (c-name-fault .result) (c-name-fault .ensures) (c .before .if1 .taken))
 
 open-name-requires : tie.Need-open-name-requires
@@ -37,7 +37,7 @@ returns-2 c =
     let c-open-name = c .before .before .before .before .before .before .open-name in
     let c-if1 = c .before .before .before .before .before .before .before .before .if1 in
     let c-name-fault = c .before .before .before .before .before .before .before .before .before .name-fault in
-    let c-args = c .before .before .before .before .before .before .before .before .before .before .before .before .args in
+    let c-args = c .before .before .before .before .before .before .before .before .before .before .before .before .before .args in
     c .refused-at2 .ensures _ _ ∙ sym (values-refused (env (now (c-args .text)) (now (c-args .vars)) (c-args .n)) (now (c-args .text)) (span (now (c-args .text)) (c-args .start) (c-args .end)) (c-args .start) (c-args .sign) (record { adds = c-args .adds; next = c-args .next .0 }) (c-name-fault .ensures) (c-if1 .left) (c-open-name .ensures) (c-values-at .ensures) (c .before .if2 .taken))
 
 returns-3 : tie.Need-returns-3
@@ -47,7 +47,7 @@ returns-3 c =
     let c-open-name = c .before .before .before .before .before .before .open-name in
     let c-if1 = c .before .before .before .before .before .before .before .before .if1 in
     let c-name-fault = c .before .before .before .before .before .before .before .before .before .name-fault in
-    let c-args = c .before .before .before .before .before .before .before .before .before .before .before .before .args in
+    let c-args = c .before .before .before .before .before .before .before .before .before .before .before .before .before .args in
     sym (values-some (env (now (c-args .text)) (now (c-args .vars)) (c-args .n)) (now (c-args .text)) (span (now (c-args .text)) (c-args .start) (c-args .end)) (c-args .start) (c-args .sign) (record { adds = c-args .adds; next = c-args .next .0 }) (c-name-fault .ensures) (c-if1 .left) (c-open-name .ensures) (c-values-at .ensures) (c .before .if2 .left) (c .if3 .taken))
 
 refused-at-requires-3 : tie.Need-refused-at-requires-3
@@ -60,7 +60,7 @@ returns-4 c =
     let c-open-name = c .before .before .before .before .before .before .before .open-name in
     let c-if1 = c .before .before .before .before .before .before .before .before .before .if1 in
     let c-name-fault = c .before .before .before .before .before .before .before .before .before .before .name-fault in
-    let c-args = c .before .before .before .before .before .before .before .before .before .before .before .before .before .args in
+    let c-args = c .before .before .before .before .before .before .before .before .before .before .before .before .before .before .args in
     c .refused-at3 .ensures _ _ ∙ sym (values-none (env (now (c-args .text)) (now (c-args .vars)) (c-args .n)) (now (c-args .text)) (span (now (c-args .text)) (c-args .start) (c-args .end)) (c-args .start) (c-args .sign) (record { adds = c-args .adds; next = c-args .next .0 }) (c-name-fault .ensures) (c-if1 .left) (c-open-name .ensures) (c-values-at .ensures) (c-if2 .left) (c .before .if3 .left))
 
 pub after-operator-spec : {M : Type 1} → statement M

@@ -11,31 +11,31 @@ named-requires c κs = search needs
 
 returns : tie.Need-returns
 returns c =
-    let a = (c .before .before .before .before .args) in
+    let a = (c .before .before .before .before .before .args) in
     let k : _ = fault-number (now (a .text)) (now (a .vars)) (a .n) (span (now (a .text)) (a .start) (a .end)) (a .adds) in
     rw (k, ← c .before .before .named .ensures, c .before .if1 .taken, eq-eqb _ _ (c .if2 .taken))
 
 returns-2 : tie.Need-returns-2
 returns-2 c =
-    let a = (c .before .before .before .before .args) in
+    let a = (c .before .before .before .before .before .args) in
     let k : _ = fault-number (now (a .text)) (now (a .vars)) (a .n) (span (now (a .text)) (a .start) (a .end)) (a .adds) in
     rw (k, ← c .before .before .named .ensures, c .before .if1 .taken, ne-eqb _ _ (c .if2 .left))
 
 returns-3 : tie.Need-returns-3
 returns-3 c =
-    let a = (c .before .before .before .before .args) in
+    let a = (c .before .before .before .before .before .args) in
     let k : _ = fault-number (now (a .text)) (now (a .vars)) (a .n) (span (now (a .text)) (a .start) (a .end)) (a .adds) in
     rw (k, ← c .before .before .named .ensures, c .before .if1 .left, ne-eqb _ _ (c .if3 .taken))
 
 returns-4 : tie.Need-returns-4
 returns-4 c =
-    let a = (c .before .before .before .before .before .args) in
+    let a = (c .before .before .before .before .before .before .args) in
     let k : _ = fault-number (now (a .text)) (now (a .vars)) (a .n) (span (now (a .text)) (a .start) (a .end)) (a .adds) in
     rw (k, ← c .before .before .before .named .ensures, c .before .before .if1 .left, eq-eqb _ _ (c .before .if3 .left), le-leb _ _ (c .if4 .taken))
 
 returns-5 : tie.Need-returns-5
 returns-5 c =
-    let a = (c .before .before .before .before .before .args) in
+    let a = (c .before .before .before .before .before .before .args) in
     let k : _ = fault-number (now (a .text)) (now (a .vars)) (a .n) (span (now (a .text)) (a .start) (a .end)) (a .adds) in
     rw (k, ← c .before .before .before .named .ensures, c .before .before .if1 .left, eq-eqb _ _ (c .before .if3 .left), lt-leb _ _ (c .if4 .left))
 

@@ -52,13 +52,13 @@ next-fault-requires c κs = search needs
 returns-3 : tie.Need-returns-3 Inv-loop μ-loop
 returns-3 c =
     let c-next-fault = c .before .before .next-fault in
-    let c-r = c .before .before .before .before .before .r in
-    let c-next-token = c .before .before .before .before .before .before .before .next-token in
-    let c-if1 = c .before .before .before .before .before .before .before .before .if1 in
-    let c-line-ends = c .before .before .before .before .before .before .before .before .before .line-ends in
-    let c-in-line-at = c .before .before .before .before .before .before .before .before .before .before .in-line-at in
-    let c-loop = c .before .before .before .before .before .before .before .before .before .before .before .loop in
-    let c-pre = c .before .before .before .before .before .before .before .before .before .before .before .before .before .pre in
+    let c-r = c .before .before .before .before .before .before .r in
+    let c-next-token = c .before .before .before .before .before .before .before .before .next-token in
+    let c-if1 = c .before .before .before .before .before .before .before .before .before .if1 in
+    let c-line-ends = c .before .before .before .before .before .before .before .before .before .before .line-ends in
+    let c-in-line-at = c .before .before .before .before .before .before .before .before .before .before .before .in-line-at in
+    let c-loop = c .before .before .before .before .before .before .before .before .before .before .before .before .loop in
+    let c-pre = c .before .before .before .before .before .before .before .before .before .before .before .before .before .before .pre in
     upto-fault (c-loop .inv) (c-in-line-at .ensures) (c-next-token .result) (c-next-token .ensures) (sym (c-line-ends .ensures) ∙ c-if1 .left) (c-r .given .0 .0) (c-r .given .1) c-pre (c-next-fault .result) (c-next-fault .ensures c-pre) (c .before .if2 .taken) _ _
 
 with-value-requires : tie.Need-with-value-requires Inv-loop μ-loop
@@ -68,26 +68,26 @@ loop-less : tie.Need-loop-less Inv-loop μ-loop
 loop-less c =
     let c-if2 = c .before .before .before .if2 in
     let c-next-fault = c .before .before .before .before .next-fault in
-    let c-r = c .before .before .before .before .before .before .before .r in
-    let c-next-token = c .before .before .before .before .before .before .before .before .before .next-token in
-    let c-if1 = c .before .before .before .before .before .before .before .before .before .before .if1 in
-    let c-line-ends = c .before .before .before .before .before .before .before .before .before .before .before .line-ends in
-    let c-in-line-at = c .before .before .before .before .before .before .before .before .before .before .before .before .in-line-at in
-    let c-loop = c .before .before .before .before .before .before .before .before .before .before .before .before .before .loop in
-    let c-pre = c .before .before .before .before .before .before .before .before .before .before .before .before .before .before .before .pre in
+    let c-r = c .before .before .before .before .before .before .before .before .r in
+    let c-next-token = c .before .before .before .before .before .before .before .before .before .before .next-token in
+    let c-if1 = c .before .before .before .before .before .before .before .before .before .before .before .if1 in
+    let c-line-ends = c .before .before .before .before .before .before .before .before .before .before .before .before .line-ends in
+    let c-in-line-at = c .before .before .before .before .before .before .before .before .before .before .before .before .before .in-line-at in
+    let c-loop = c .before .before .before .before .before .before .before .before .before .before .before .before .before .before .loop in
+    let c-pre = c .before .before .before .before .before .before .before .before .before .before .before .before .before .before .before .before .pre in
     upto-less (c-loop .inv) (c-in-line-at .ensures) (c-next-token .result) (c-next-token .ensures) (sym (c-line-ends .ensures) ∙ c-if1 .left) (c-r .given .0 .0) (c-r .given .1) c-pre (c-next-fault .result) (c-next-fault .ensures c-pre) (c-if2 .left) (c .before .with-value .ensures)
 
 loop-again : tie.Need-loop-again Inv-loop μ-loop
 loop-again c =
     let c-if2 = c .before .before .before .if2 in
     let c-next-fault = c .before .before .before .before .next-fault in
-    let c-r = c .before .before .before .before .before .before .before .r in
-    let c-next-token = c .before .before .before .before .before .before .before .before .before .next-token in
-    let c-if1 = c .before .before .before .before .before .before .before .before .before .before .if1 in
-    let c-line-ends = c .before .before .before .before .before .before .before .before .before .before .before .line-ends in
-    let c-in-line-at = c .before .before .before .before .before .before .before .before .before .before .before .before .in-line-at in
-    let c-loop = c .before .before .before .before .before .before .before .before .before .before .before .before .before .loop in
-    let c-pre = c .before .before .before .before .before .before .before .before .before .before .before .before .before .before .before .pre in
+    let c-r = c .before .before .before .before .before .before .before .before .r in
+    let c-next-token = c .before .before .before .before .before .before .before .before .before .before .next-token in
+    let c-if1 = c .before .before .before .before .before .before .before .before .before .before .before .if1 in
+    let c-line-ends = c .before .before .before .before .before .before .before .before .before .before .before .before .line-ends in
+    let c-in-line-at = c .before .before .before .before .before .before .before .before .before .before .before .before .before .in-line-at in
+    let c-loop = c .before .before .before .before .before .before .before .before .before .before .before .before .before .before .loop in
+    let c-pre = c .before .before .before .before .before .before .before .before .before .before .before .before .before .before .before .before .pre in
     upto-more (c-loop .inv) (c-in-line-at .ensures) (c-next-token .result) (c-next-token .ensures) (sym (c-line-ends .ensures) ∙ c-if1 .left) (c-r .given .0 .0) (c-r .given .1) c-pre (c-next-fault .result) (c-next-fault .ensures c-pre) (c-if2 .left) (c .before .with-value .ensures)
 
 pub values-at-spec : {M : Type 1} → statement M

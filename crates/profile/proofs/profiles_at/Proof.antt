@@ -22,7 +22,7 @@ no-profiles-requires c κs = search needs
 
 loop-holds : tie.Need-loop-holds Inv-loop μ-loop
 loop-holds c =
-    let c-args = c .before .before .args in
+    let c-args = c .before .before .before .args in
     let s = now (c-args .text) in
     let vs = env s (now (c-args .vars)) (c-args .n) in
     (omega (arith, c .no-profiles .ensures), read-none vs s (c .no-profiles .result) 512 (c-args .at .0) (c .no-profiles .ensures))
@@ -34,7 +34,7 @@ returns : tie.Need-returns Inv-loop μ-loop
 unfolding seenProfiles
 returns c =
     let c-loop = c .before .before .loop in
-    let c-args = c .before .before .before .before .before .args in
+    let c-args = c .before .before .before .before .before .before .args in
     let s = now (c-args .text) in
     let vs = env s (now (c-args .vars)) (c-args .n) in
     (sym (read-end vs s (c-loop .profiles) (c-loop .left) (c-loop .place .0) (sym (c .before .ends-at .ensures) ∙ c .if1 .taken)) ∙ c-loop .inv .1, c-loop .inv .0)
@@ -49,7 +49,7 @@ with-profile-requires : tie.Need-with-profile-requires Inv-loop μ-loop
 with-profile-requires c κs =
     let c-profile-at = c .before .before .before .profile-at in
     let c-loop = c .before .before .before .before .before .before .before .before .loop in
-    let c-args = c .before .before .before .before .before .before .before .before .before .before .before .args in
+    let c-args = c .before .before .before .before .before .before .before .before .before .before .before .before .args in
     let s = now (c-args .text) in
     let vs = env s (now (c-args .vars)) (c-args .n) in
     turn-room vs s (c-loop .profiles) (c-loop .left) (c-loop .place .0) (c-loop .inv .0) (c-profile-at .result) (c-profile-at .ensures) (c .before .r .given .0 .0) (c .before .r .given .0 .1 .0) (c .before .r .given .0 .1 .1 .0) (c .before .r .given .0 .1 .1 .1 .0) (c .before .r .given .1)
@@ -59,7 +59,7 @@ sub-left c =
     let c-r = c .before .before .r in
     let c-profile-at = c .before .before .before .before .profile-at in
     let c-loop = c .before .before .before .before .before .before .before .before .before .loop in
-    let c-args = c .before .before .before .before .before .before .before .before .before .before .before .before .args in
+    let c-args = c .before .before .before .before .before .before .before .before .before .before .before .before .before .args in
     let s = now (c-args .text) in
     let vs = env s (now (c-args .vars)) (c-args .n) in
     turn-left vs s (c-loop .profiles) (c-loop .left) (c-loop .place .0) (c-loop .inv .0) (c-profile-at .result) (c-profile-at .ensures) (c-r .given .0 .0) (c-r .given .0 .1 .0) (c-r .given .0 .1 .1 .0) (c-r .given .0 .1 .1 .1 .0) (c-r .given .1)
@@ -69,7 +69,7 @@ loop-less c =
     let c-r = c .before .before .r in
     let c-profile-at = c .before .before .before .before .profile-at in
     let c-loop = c .before .before .before .before .before .before .before .before .before .loop in
-    let c-args = c .before .before .before .before .before .before .before .before .before .before .before .before .args in
+    let c-args = c .before .before .before .before .before .before .before .before .before .before .before .before .before .args in
     let s = now (c-args .text) in
     let vs = env s (now (c-args .vars)) (c-args .n) in
     let h : c-loop .profiles .count < 32 = turn-room vs s (c-loop .profiles) (c-loop .left) (c-loop .place .0) (c-loop .inv .0) (c-profile-at .result) (c-profile-at .ensures) (c-r .given .0 .0) (c-r .given .0 .1 .0) (c-r .given .0 .1 .1 .0) (c-r .given .0 .1 .1 .1 .0) (c-r .given .1) in
@@ -82,7 +82,7 @@ loop-again c =
     let c-if1 = c .before .before .before .before .before .before .before .if1 in
     let c-ends-at = c .before .before .before .before .before .before .before .before .ends-at in
     let c-loop = c .before .before .before .before .before .before .before .before .before .loop in
-    let c-args = c .before .before .before .before .before .before .before .before .before .before .before .before .args in
+    let c-args = c .before .before .before .before .before .before .before .before .before .before .before .before .before .args in
     let s = now (c-args .text) in
     let vs = env s (now (c-args .vars)) (c-args .n) in
     let h : c-loop .profiles .count < 32 = turn-room vs s (c-loop .profiles) (c-loop .left) (c-loop .place .0) (c-loop .inv .0) (c-profile-at .result) (c-profile-at .ensures) (c-r .given .0 .0) (c-r .given .0 .1 .0) (c-r .given .0 .1 .1 .0) (c-r .given .0 .1 .1 .1 .0) (c-r .given .1) in
@@ -98,7 +98,7 @@ returns-2 c =
     let c-if1 = c .before .before .before .before .before .before .if1 in
     let c-ends-at = c .before .before .before .before .before .before .before .ends-at in
     let c-loop = c .before .before .before .before .before .before .before .before .loop in
-    let c-args = c .before .before .before .before .before .before .before .before .before .before .before .args in
+    let c-args = c .before .before .before .before .before .before .before .before .before .before .before .before .args in
     let s = now (c-args .text) in
     let vs = env s (now (c-args .vars)) (c-args .n) in
     (sym (turn-refused vs s (c-loop .profiles) (c-loop .left) (c-loop .place .0) (c-loop .inv .0) (c-profile-at .result) (c-profile-at .ensures) (sym (c-ends-at .ensures) ∙ c-if1 .left) (c .before .r2 .given .0 .0) (c .before .r2 .given .1)) ∙ c-loop .inv .1, c-loop .inv .0)

@@ -12,7 +12,7 @@ no-profiles-requires c κs = search needs
 returns : tie.Need-returns
 unfolding profilesOf seenProfiles
 returns c =
-    let c-args = c .before .before .before .before .before .args in
+    let c-args = c .before .before .before .before .before .before .args in
     (rw (seen-refused (now (c-args .text)) (now (c-args .vars)) (c-args .p) (c .before .if1 .taken)), omega (arith, c .no-profiles .ensures))
 
 profiles-at-requires : tie.Need-profiles-at-requires
@@ -21,7 +21,7 @@ profiles-at-requires c κs = search needs
 returns-2 : tie.Need-returns-2
 unfolding profilesOf
 returns-2 c =
-    let c-args = c .before .before .before .before .before .args in
+    let c-args = c .before .before .before .before .before .before .args in
     (rw (seen-read (now (c-args .text)) (now (c-args .vars)) (c-args .p) (c .before .if1 .left)) (c .profiles-at .ensures .0), c .profiles-at .ensures .1)
 
 pub profiles-of-spec : {M : Type 1} → statement M

@@ -20,8 +20,8 @@ line-of-requires c κs = search needs
 returns : tie.Need-returns
 returns c =
     let c-profiles-of = c .before .before .before .before .profiles-of in
-    let c-preamble-at = c .before .before .before .before .before .before .before .before .before .before .preamble-at in
-    let c-args = c .before .before .before .before .before .before .before .before .before .before .before .before .before .args in
+    let c-preamble-at = c .before .before .before .before .before .before .before .before .before .before .before .before .preamble-at in
+    let c-args = c .before .before .before .before .before .before .before .before .before .before .before .before .before .before .before .args in
     (file-read (now (c-args .text)) _ (c-preamble-at .result) (c-profiles-of .result) _ (c-preamble-at .ensures) (c-profiles-of .ensures .0) refl refl refl (c .line-of .ensures) refl refl, c-profiles-of .ensures .1)
 
 pub read-spec : {M : Type 1} → statement M

@@ -13,7 +13,7 @@ rule-here-requires c κs = search needs
 
 returns : tie.Need-returns
 returns c =
-    let a = (c .before .before .before .args) in
+    let a = (c .before .before .before .before .args) in
     (rw (← rule-standing (faultBy (now (a .text)) (now (a .vars)) (a .n) (now (a .sizes))) (now (a .text)) (a .at .0), ← c .before .standing-at .ensures) (c .rule-here .ensures .0), c .rule-here .ensures .1)
 
 pub rule-at-spec : {M : Type 1} → statement M

@@ -28,8 +28,8 @@ standing-at-requires c κs = search needs
 add-t19 : tie.Need-add-t19
 unfolding bytes
 add-t19 c =
-    let s = now (c .before .before .before .before .before .args .text) in
-    let h : 1 ≤ length s - standing s (c .before .before .before .before .before .args .at .0) = stands-inside (bytes "}") s (c .before .before .before .before .before .args .at .0) (sym (c .before .before .stands-at .ensures) ∙ c .before .if1 .taken) in
+    let s = now (c .before .before .before .before .before .before .args .text) in
+    let h : 1 ≤ length s - standing s (c .before .before .before .before .before .before .args .at .0) = stands-inside (bytes "}") s (c .before .before .before .before .before .before .args .at .0) (sym (c .before .before .stands-at .ensures) ∙ c .before .if1 .taken) in
     omega (arith, c .standing-at .ensures)
 
 returns : tie.Need-returns
@@ -50,7 +50,7 @@ stop-of-requires c κs = search needs
 
 returns-2 : tie.Need-returns-2
 unfolding ruleAt bodyAt seen seenStep bytes
-returns-2 c = (rw (c .stop-of .ensures, ← c .before .before .before .before .before .stands-at .ensures, c .before .before .before .before .if1 .left, ← c .before .before .before .qualifiers-at .ensures .is, ← pattern-from _ (seenQualifiers (c .before .before .before .qualifiers-at .result)) (c .before .before .before .qualifiers-at .ensures .token), ← c .before .before .pattern-at .ensures, no-token (now (c .before .before .before .before .before .before .before .before .args .text)) (c .before .before .pattern-at .result) (c .before .match .keys2), bodyAt), refl)
+returns-2 c = (rw (c .stop-of .ensures, ← c .before .before .before .before .before .stands-at .ensures, c .before .before .before .before .if1 .left, ← c .before .before .before .qualifiers-at .ensures .is, ← pattern-from _ (seenQualifiers (c .before .before .before .qualifiers-at .result)) (c .before .before .before .qualifiers-at .ensures .token), ← c .before .before .pattern-at .ensures, no-token (now (c .before .before .before .before .before .before .before .before .before .args .text)) (c .before .before .pattern-at .result) (c .before .match .keys2), bodyAt), refl)
 
 rule-from-requires : tie.Need-rule-from-requires
 rule-from-requires c κs = search needs

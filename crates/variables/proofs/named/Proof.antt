@@ -30,20 +30,14 @@ sub-w c = search needs
 mul-w : tie.Need-mul-w Inv-loop μ-loop
 mul-w c = search needs
 
-mul-span : tie.Need-mul-span Inv-loop μ-loop
-mul-span c = search needs
+cell-requires : tie.Need-cell-requires Inv-loop μ-loop
+cell-requires c κs = search needs
 
-element-copy-out-span : tie.Need-element-copy-out-span Inv-loop μ-loop
-element-copy-out-span c = search needs
+add-cell : tie.Need-add-cell Inv-loop μ-loop
+add-cell c = search needs
 
-add-span : tie.Need-add-span Inv-loop μ-loop
-add-span c = search needs
-
-mul-span-2 : tie.Need-mul-span-2 Inv-loop μ-loop
-mul-span-2 c = search needs
-
-element-copy-out-span-2 : tie.Need-element-copy-out-span-2 Inv-loop μ-loop
-element-copy-out-span-2 c = search needs
+cell-requires-2 : tie.Need-cell-requires-2 Inv-loop μ-loop
+cell-requires-2 c κs = search needs
 
 span-requires-2 : tie.Need-span-requires-2 Inv-loop μ-loop
 span-requires-2 c κs = search needs
@@ -52,7 +46,7 @@ same-bytes-requires : tie.Need-same-bytes-requires Inv-loop μ-loop
 same-bytes-requires c κs = search needs
 
 returns : tie.Need-returns Inv-loop μ-loop
-returns c = sym (number-hit (now (c .before .before .before .before .before .before .before .before .before .before .args .text)) (now (c .before .before .before .before .before .before .before .before .before .before .args .vars)) (span (now (c .before .before .before .before .before .before .before .before .before .before .args .text)) (c .before .before .before .before .before .before .before .before .before .before .args .start) (c .before .before .before .before .before .before .before .before .before .before .args .end)) (c .before .before .before .before .before .before .loop .i) (omega arith) (sym (c .before .same-bytes .ensures ∙ ap₂ same (c .before .before .span2 .ensures) (c .before .before .before .before .before .before .before .before .span .ensures)) ∙ c .if1 .taken)) ∙ c .before .before .before .before .before .before .loop .inv .1
+returns c = sym (number-hit (now (c .before .before .before .before .before .before .before .before .before .before .before .args .text)) (now (c .before .before .before .before .before .before .before .before .before .before .before .args .vars)) (span (now (c .before .before .before .before .before .before .before .before .before .before .before .args .text)) (c .before .before .before .before .before .before .before .before .before .before .before .args .start) (c .before .before .before .before .before .before .before .before .before .before .before .args .end)) (c .before .before .before .before .before .before .loop .i) (omega arith) (sym (c .before .same-bytes .ensures ∙ ap₂ same (c .before .before .span2 .ensures ∙ ap₂ (span (now (c .before .before .before .before .before .before .before .before .before .before .before .args .text))) (c .before .before .before .before .cell .ensures) (c .before .before .before .cell2 .ensures)) (c .before .before .before .before .before .before .before .before .span .ensures)) ∙ c .if1 .taken)) ∙ c .before .before .before .before .before .before .loop .inv .1
 
 sub-i : tie.Need-sub-i Inv-loop μ-loop
 sub-i c = search needs
@@ -61,10 +55,10 @@ loop-less : tie.Need-loop-less Inv-loop μ-loop
 loop-less c = search needs
 
 loop-again : tie.Need-loop-again Inv-loop μ-loop
-loop-again c = (omega arith, sym (number-miss (now (c .before .before .before .before .before .before .before .before .before .before .args .text)) (now (c .before .before .before .before .before .before .before .before .before .before .args .vars)) (span (now (c .before .before .before .before .before .before .before .before .before .before .args .text)) (c .before .before .before .before .before .before .before .before .before .before .args .start) (c .before .before .before .before .before .before .before .before .before .before .args .end)) (c .before .before .before .before .before .before .loop .i) (omega arith) (sym (c .before .same-bytes .ensures ∙ ap₂ same (c .before .before .span2 .ensures) (c .before .before .before .before .before .before .before .before .span .ensures)) ∙ c .if1 .left)) ∙ c .before .before .before .before .before .before .loop .inv .1)
+loop-again c = (omega arith, sym (number-miss (now (c .before .before .before .before .before .before .before .before .before .before .before .args .text)) (now (c .before .before .before .before .before .before .before .before .before .before .before .args .vars)) (span (now (c .before .before .before .before .before .before .before .before .before .before .before .args .text)) (c .before .before .before .before .before .before .before .before .before .before .before .args .start) (c .before .before .before .before .before .before .before .before .before .before .before .args .end)) (c .before .before .before .before .before .before .loop .i) (omega arith) (sym (c .before .same-bytes .ensures ∙ ap₂ same (c .before .before .span2 .ensures ∙ ap₂ (span (now (c .before .before .before .before .before .before .before .before .before .before .before .args .text))) (c .before .before .before .before .cell .ensures) (c .before .before .before .cell2 .ensures)) (c .before .before .before .before .before .before .before .before .span .ensures)) ∙ c .if1 .left)) ∙ c .before .before .before .before .before .before .loop .inv .1)
 
 returns-2 : tie.Need-returns-2 Inv-loop μ-loop
-returns-2 c = omega arith ∙ sym (number-end (now (c .before .before .before .before .before .args .text)) (now (c .before .before .before .before .before .args .vars)) (span (now (c .before .before .before .before .before .args .text)) (c .before .before .before .before .before .args .start) (c .before .before .before .before .before .args .end)) (c .before .loop .i) (omega arith)) ∙ c .before .loop .inv .1
+returns-2 c = omega arith ∙ sym (number-end (now (c .before .before .before .before .before .before .args .text)) (now (c .before .before .before .before .before .before .args .vars)) (span (now (c .before .before .before .before .before .before .args .text)) (c .before .before .before .before .before .before .args .start) (c .before .before .before .before .before .before .args .end)) (c .before .loop .i) (omega arith)) ∙ c .before .loop .inv .1
 
 pub named-spec : {M : Type 1} → statement M
 named-spec =
@@ -77,11 +71,9 @@ named-spec =
     loop-holds
     sub-w
     mul-w
-    mul-span
-    element-copy-out-span
-    add-span
-    mul-span-2
-    element-copy-out-span-2
+    cell-requires
+    add-cell
+    cell-requires-2
     span-requires-2
     same-bytes-requires
     returns

@@ -13,7 +13,7 @@ no-findings-requires c κs = search needs
 
 returns : tie.Need-returns
 returns c =
-    let a = (c .before .before .before .before .args) in
+    let a = (c .before .before .before .before .before .args) in
     c .no-findings .ensures (now (a .text)) ∙ sym (gathered-long (now (a .text)) _ _ (a .count) (a .at .0) (omega arith))
 
 no-findings-requires-2 : tie.Need-no-findings-requires-2
@@ -21,18 +21,18 @@ no-findings-requires-2 c κs = search needs
 
 returns-2 : tie.Need-returns-2
 returns-2 c =
-    let a = (c .before .before .before .before .before .args) in
+    let a = (c .before .before .before .before .before .before .args) in
     c .no-findings2 .ensures (now (a .text)) ∙ sym (gathered-far (now (a .text)) _ (record { path = now (a .path); owner = a .owner }) (a .count) (a .at .0) (omega arith))
 
 sizes-of-requires : tie.Need-sizes-of-requires
 sizes-of-requires c κs = search needs
 
 gather-requires : tie.Need-gather-requires
-gather-requires c κs = (c .before .before .sizes-of .ensures, record { short = omega arith; fits = le-leb (length (now (c .before .before .before .before .before .before .before .args .path))) 4095 (omega arith) })
+gather-requires c κs = (c .before .before .sizes-of .ensures, record { short = omega arith; fits = le-leb (length (now (c .before .before .before .before .before .before .before .before .args .path))) 4095 (omega arith) })
 
 returns-3 : tie.Need-returns-3
 returns-3 c =
-    let a = (c .before .before .before .before .before .before .before .before .args) in
+    let a = (c .before .before .before .before .before .before .before .before .before .args) in
     c .gather .ensures ∙ sym (gathered-fit (now (a .text)) _ (record { path = now (a .path); owner = a .owner }) (a .count) (a .at .0) (record { short = omega arith; fits = le-leb (length (now (a .path))) 4095 (omega arith) }))
 
 pub findings-of-spec : {M : Type 1} → statement M

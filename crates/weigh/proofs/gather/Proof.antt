@@ -32,7 +32,7 @@ no-findings-requires : tie.Need-no-findings-requires Inv-loop μ-loop
 no-findings-requires c κs = search needs
 
 loop-holds : tie.Need-loop-holds Inv-loop μ-loop
-loop-holds c = let e : c .before .before .before .args .count - 0 ≡ c .before .before .before .args .count = omega arith in (omega arith, rw (e, c .no-findings .ensures (now (c .before .before .before .args .text))))
+loop-holds c = let e : c .before .before .before .before .args .count - 0 ≡ c .before .before .before .before .args .count = omega arith in (omega arith, rw (e, c .no-findings .ensures (now (c .before .before .before .before .args .text))))
 
 rule-at-requires : tie.Need-rule-at-requires Inv-loop μ-loop
 rule-at-requires c κs = search needs
@@ -44,7 +44,7 @@ weigh-requires : tie.Need-weigh-requires Inv-loop μ-loop
 weigh-requires c κs = search needs
 
 add-i : tie.Need-add-i Inv-loop μ-loop
-add-i c = omega (arith, c .before .before .before .before .before .before .before .before .before .before .good .1 .1 .1 .1 .1 .1 .0)
+add-i c = omega (arith, c .before .before .before .before .before .before .before .before .before .before .before .good .1 .1 .1 .1 .1 .1 .0)
 
 loop-less : tie.Need-loop-less Inv-loop μ-loop
 loop-less c = search needs
@@ -52,8 +52,8 @@ loop-less c = search needs
 loop-again : tie.Need-loop-again Inv-loop μ-loop
 loop-again c =
     let l = (c .before .before .before .before .before .before .loop) in
-    let a = (c .before .before .before .before .before .before .before .before .before .before .args) in
-    let k = (c .before .before .before .before .before .before .before .before .before .before .pre) in
+    let a = (c .before .before .before .before .before .before .before .before .before .before .before .args) in
+    let k = (c .before .before .before .before .before .before .before .before .before .before .before .pre) in
     let s = now (a .text) in
     let vs = env s (now (a .vars)) (a .n) in
     let w = seenFindings s (l .found) in
@@ -72,8 +72,8 @@ enum-told c = search needs
 returns : tie.Need-returns Inv-loop μ-loop
 returns c =
     let l = (c .before .before .before .before .loop) in
-    let a = (c .before .before .before .before .before .before .before .before .args) in
-    let k = (c .before .before .before .before .before .before .before .before .pre) in
+    let a = (c .before .before .before .before .before .before .before .before .before .args) in
+    let k = (c .before .before .before .before .before .before .before .before .before .pre) in
     let s = now (a .text) in
     let vs = env s (now (a .vars)) (a .n) in
     let w = seenFindings s (l .found) in
@@ -88,8 +88,8 @@ enum-told-2 c = search needs
 returns-2 : tie.Need-returns-2 Inv-loop μ-loop
 returns-2 c =
     let l = (c .before .before .before .before .loop) in
-    let a = (c .before .before .before .before .before .before .before .before .args) in
-    let k = (c .before .before .before .before .before .before .before .before .pre) in
+    let a = (c .before .before .before .before .before .before .before .before .before .args) in
+    let k = (c .before .before .before .before .before .before .before .before .before .pre) in
     let s = now (a .text) in
     let vs = env s (now (a .vars)) (a .n) in
     let w = seenFindings s (l .found) in
@@ -101,8 +101,8 @@ returns-2 c =
 returns-3 : tie.Need-returns-3 Inv-loop μ-loop
 returns-3 c =
     let l = (c .before .loop) in
-    let a = (c .before .before .before .before .before .args) in
-    let k = (c .before .before .before .before .before .pre) in
+    let a = (c .before .before .before .before .before .before .args) in
+    let k = (c .before .before .before .before .before .before .pre) in
     let s = now (a .text) in
     let vs = env s (now (a .vars)) (a .n) in
     let w = seenFindings s (l .found) in

@@ -9,7 +9,7 @@ use Rattle.weigh.proofs.weigh.Tie as tie
 
 returns : tie.Need-returns
 returns c =
-    let a = (c .before .before .before .before .args) in
+    let a = (c .before .before .before .before .before .args) in
     let r = ruleOf (now (a .text)) (a .rule) in
     let w = seenFindings (now (a .text)) (a .found) in
     weigh-not-owner (a .owner) r w _ (c .if1 .taken)
@@ -22,7 +22,7 @@ deny-requires c κs = search needs
 
 returns-2 : tie.Need-returns-2
 returns-2 c =
-    let a = (c .before .before .before .before .before .before .before .before .before .args) in
+    let a = (c .before .before .before .before .before .before .before .before .before .before .args) in
     let r = ruleOf (now (a .text)) (a .rule) in
     let w = seenFindings (now (a .text)) (a .found) in
     c .deny .ensures ∙ weigh-denied (a .owner) r w (c .before .before .before .match-good .ensures) (c .before .before .before .before .before .if1 .left) (c .before .before .if2 .taken) (c .before .if3 .taken)
@@ -32,14 +32,14 @@ allow-requires c κs = search needs
 
 returns-3 : tie.Need-returns-3
 returns-3 c =
-    let a = (c .before .before .before .before .before .before .before .before .before .args) in
+    let a = (c .before .before .before .before .before .before .before .before .before .before .args) in
     let r = ruleOf (now (a .text)) (a .rule) in
     let w = seenFindings (now (a .text)) (a .found) in
     c .allow .ensures ∙ weigh-allowed (a .owner) r w (c .before .before .before .match-good .ensures) (c .before .before .before .before .before .if1 .left) (c .before .before .if2 .taken) (c .before .if3 .left)
 
 returns-4 : tie.Need-returns-4
 returns-4 c =
-    let a = (c .before .before .before .before .before .before .before .args) in
+    let a = (c .before .before .before .before .before .before .before .before .args) in
     let r = ruleOf (now (a .text)) (a .rule) in
     let w = seenFindings (now (a .text)) (a .found) in
     weigh-unmatched (a .owner) r w (c .before .match-good .ensures) (c .before .before .before .if1 .left) (c .if2 .left)
