@@ -1,7 +1,9 @@
 // Answers requests from standard input, one a line, as document 01's case program writes them. A request has five fields
-// parted by tabs: text, profile name and path in hex, the asked number, the owner mark 0 or 1.
+// parted by tabs: text, profile name and path in hex, the asked number, the owner mark 0 or 1. Each is also asked of what is read of
+// its text; where that answer is another, it is written too.
 use answer::Answer;
 use answer::Verdict;
+use answer::refused;
 use decide::decide;
 use libc::STDIN_FILENO;
 use perms::Perms;
@@ -9,6 +11,7 @@ use print::put;
 use print::put_execute;
 use print::put_number;
 use print::put_target;
+use text::Refusal;
 ghost use Prim.Native.Nat.{_≤_, _<_};
 ghost use Rattle.io.specs.Counts.{Counts};
 
@@ -117,6 +120,66 @@ fn put_answer(a: Answer) {
     }
 }
 
+// The refusal; number and line are 0 where there is none.
+fn refusal_of(verdict: Verdict) -> Refusal {
+    match verdict {
+        Verdict::Answered => Refusal { number: 0, line: 0 },
+        Verdict::Refused(refusal) => refusal,
+    }
+}
+
+// The answer of a text that is read into memory and then asked. What is wrong with the request comes before what is wrong with the
+// text, as where both are asked in one call.
+fn by_memory(
+    text: &[u8],
+    memory: &mut [usize],
+    name: &[u8],
+    path: &[u8],
+    asked: Perms,
+    owner: bool,
+) -> Answer {
+    let got = flat::read(text, memory);
+    let a = flat::ask(text, memory, name, path, asked, owner);
+    let verdict = a.verdict;
+    let first = refusal_of(verdict);
+    if (0 < first.number) & (first.number < 4) {
+        return a;
+    }
+    let refusal = got.refusal;
+    if got.refused {
+        return refused(refusal.number, refusal.line);
+    }
+    a
+}
+
+// Whether two answers are the same.
+fn is_same(a: Answer, b: Answer) -> bool {
+    let one = a.verdict;
+    let other = b.verdict;
+    let first = refusal_of(one);
+    let second = refusal_of(other);
+    let by_one = a.execute;
+    let by_other = b.execute;
+    let target = a.target;
+    let named = b.target;
+    let same_target = scan::same_bytes(&target.bytes, &named.bytes) & (target.len == named.len);
+    (first.number == second.number)
+        & (first.line == second.line)
+        & (a.granted.0 == b.granted.0)
+        & (a.recorded.0 == b.recorded.0)
+        & (by_one.number() == by_other.number())
+        & same_target
+}
+
+// Writes an answer's line, and that of asking what was read where it is another.
+fn put_both(a: Answer, b: Answer) {
+    put_answer(a);
+    if !is_same(a, b) {
+        put(b"asked otherwise: ");
+        put_answer(b);
+    }
+}
+
 // Answers the next request; false where there is none.
 fn request() -> bool {
     let first = next_byte();
@@ -138,7 +201,16 @@ fn request() -> bool {
         Perms(asked),
         owner,
     );
-    put_answer(a);
+    let mut memory = [0usize; 7400];
+    let b = by_memory(
+        &text[..text_bytes],
+        &mut memory,
+        &name[..name_bytes],
+        &path[..path_bytes],
+        Perms(asked),
+        owner,
+    );
+    put_both(a, b);
     true
 }
 

@@ -1,8 +1,8 @@
 -- The laws of codes: which are literals, and slashes joined in place.
 use mathlib.Core.Path.{_≡_, refl, sym, ap, ap₂, _∙_}
-use mathlib.Core.Bool.{Bool, true, false, _&&_}
+use mathlib.Core.Bool.{Bool, true, false, _&&_, _||_, false≢true}
 use mathlib.Core.List.{List, [], _∷_, _++_, append-assoc, append-nil, map}
-use Prim.Native.Nat.{ℕ, suc, _+_, _≤_, _<_, min}
+use Prim.Native.Nat.{ℕ, suc, _+_, _≤_, _<_, min, max}
 use Prim.Native.Char.{code}
 use native.Mathlib.Nat.{le-refl}
 use native.Mathlib.Omega.{arith}
@@ -10,12 +10,16 @@ use native.Mathlib.Numerals.{add-one}
 use lib.ListN.{length, take, drop, getD, set, length-take, drop-of-length-le}
 use lib.Seq.{take-all, drop-cons, drop-drop, getD-take, length-take-le, slice-empty, take-set-le, drop-set-lt, take-suc-set}
 use lib.Dec.{eqb, ltb, leb}
-use borrow.Author.Tests.{lt-ltb, le-ltb, leb-true, leb-false}
+use borrow.Author.Tests.{lt-ltb, le-ltb, ltb-true, leb-true, leb-false}
 use Rattle.scan.specs.Bytes.{every, if_then_else_}
-use Rattle.pattern.specs.Expansions.{isLiteral, joined}
-use Rattle.pattern.specs.Codes.{decode, joinedCodesAfter, joinedCodes}
-use Rattle.pattern.proofs.Codes.{joined-decode, test-decode}
+use Rattle.scan.proofs.Bools.{or-right}
+use Rattle.pattern.specs.Pieces.{Piece, Byte, One, Star, StarStar, Class}
+use Rattle.pattern.specs.Expansions.{isLiteral, joinedAfter}
+use Rattle.pattern.specs.Codes.{decode, joinedCodesAfter}
+use Rattle.pattern.proofs.Codes.{joined-decode, test-decode, decode-byte}
 use Rattle.codes.specs.Joins.{Joins}
+use Rattle.codes.specs.Held.{heldFrom, heldByte, heldWild, heldPiece, heldPieces}
+use Rattle.codes.specs.declared.Held.{Held}
 
 -- ---- literals
 
@@ -33,7 +37,7 @@ every-literal text (c ∷ cs) = ap₂ _&&_ (literal-decode text c) (every-litera
 
 -- ---- the first codes, as many as counted
 
-take-least : (n m : ℕ) (l : List ℕ) → m ≡ min n (length l) → take n l ≡ take m l
+pub take-least : (n m : ℕ) (l : List ℕ) → m ≡ min n (length l) → take n l ≡ take m l
 take-least n m l e = go (leb n (length l)) refl
   where
     go : (t : Bool) → leb n (length l) ≡ t → take n l ≡ take m l
@@ -106,13 +110,13 @@ same-behind codes l i at c h e =
 pub same-code : (codes l : List ℕ) (i : ℕ) → i < length codes → i < length l → drop i codes ≡ drop i l → getD codes i 0 ≡ getD l i 0
 same-code codes l i h k e = ap (λ (s : List ℕ). getD s 0 0) (sym (drop-cons codes i 0 h) ∙ e ∙ drop-cons l i 0 k)
 
-pub join-end : (count n at : ℕ) (l codes : List ℕ) (slash : Bool) → n ≡ min count (length l) → at ≤ n → length codes ≡ length l → drop n codes ≡ drop n l
-    → take at codes ++ joinedCodesAfter slash (drop n (take n l)) ≡ joinedCodes (take n l) → Joins count l codes at
+pub join-end : (count n at : ℕ) (l codes : List ℕ) (first slash : Bool) → n ≡ min count (length l) → at ≤ n → length codes ≡ length l → drop n codes ≡ drop n l
+    → take at codes ++ joinedCodesAfter slash (drop n (take n l)) ≡ joinedCodesAfter first (take n l) → Joins first count l codes at
 unfolding joinedCodesAfter
-join-end count n at l codes slash e h k b q =
+join-end count n at l codes first slash e h k b q =
     let t : take n l ≡ take count l = sym (take-least count n l e) in
-    let all : take at codes ≡ joinedCodes (take count l) =
-    sym (append-nil (take at codes)) ∙ (rw slice-empty at q) ∙ ap joinedCodes t in
+    let all : take at codes ≡ joinedCodesAfter first (take count l) =
+    sym (append-nil (take at codes)) ∙ (rw slice-empty at q) ∙ ap (joinedCodesAfter first) t in
     record {
       size = sym (length-take-le at codes (omega arith)) ∙ ap length all;
       kept = all;
@@ -121,5 +125,103 @@ join-end count n at l codes slash e h k b q =
     }
 
 -- and so are the pieces that the codes stand for
-pub joins-decode : (text : List ℕ) {count r : ℕ} {l codes : List ℕ} → Joins count l codes r → map (decode text) (take r codes) ≡ joined (map (decode text) (take count l))
-joins-decode text {count} {r} {l} {codes} h = ap (map (decode text)) (h .kept) ∙ joined-decode text (take count l)
+pub joins-decode : (text : List ℕ) {slash : Bool} {count r : ℕ} {l codes : List ℕ} → Joins slash count l codes r →
+    map (decode text) (take r codes) ≡ joinedAfter slash (map (decode text) (take count l))
+joins-decode text {slash} {count} {r} {l} {codes} h = ap (map (decode text)) (h .kept) ∙ joined-decode text slash (take count l)
+
+-- ---- the first literals, held to a path
+
+module _ (path : List ℕ) (h : Held) where
+  pub held-stays : (h .wild || h .gone) ≡ true → (p : Piece) → h ≡ heldPiece path h p
+  unfolding heldPiece
+  held-stays e (Byte c) = rw e
+  held-stays e One = rw e
+  held-stays e Star = rw e
+  held-stays e StarStar = rw e
+  held-stays e (Class k) = rw e
+
+  module _ (e : (h .wild || h .gone) ≡ false) where
+    pub held-literal : (text : List ℕ) (c : ℕ) → c < 256 → heldPiece path h (decode text c) ≡ heldByte path h c
+    unfolding heldPiece
+    held-literal text c k = rw (decode-byte text c k, e)
+
+    held-other : (p : Piece) → isLiteral p ≡ false → heldWild h ≡ heldPiece path h p
+    unfolding heldPiece
+    held-other (Byte c) q = absurd (false≢true (sym q))
+    held-other One q = rw e
+    held-other Star q = rw e
+    held-other StarStar q = rw e
+    held-other (Class k) q = rw e
+
+    pub held-wild : (text : List ℕ) (c : ℕ) → 256 ≤ c → heldPiece path h (decode text c) ≡ heldWild h
+    held-wild text c k = sym (held-other (decode text c) (literal-decode text c ∙ le-ltb c 256 k))
+
+-- held on from a place
+pub held-still : (h : Held) → (h .wild || h .gone) ≡ false → heldFrom (h .at) (h .slash) ≡ h
+held-still h e = go (h .wild) (h .gone) e
+  where
+    go : (w g : Bool) → (w || g) ≡ false → heldFrom (h .at) (h .slash) ≡ record { at = h .at; slash = h .slash; wild = w; gone = g }
+    go false false q = refl
+    go false true q = absurd (false≢true (sym q))
+    go true g q = absurd (false≢true (sym q))
+
+module _ (path : List ℕ) (at : ℕ) (slash : Bool) (c : ℕ) where
+  pub held-differs : heldByte path (heldFrom at slash) c .gone ≡ true → heldByte path (heldFrom at slash) c ≡ record { at = at; slash = slash; wild = false; gone = true }
+  unfolding heldByte
+  held-differs e = go (slash && eqb c (code "/")) (ltb at (length path) && eqb (getD path at 0) c) e
+    where
+      go : (s t : Bool) → (if s then heldFrom at slash else if t then heldFrom (suc at) (eqb c (code "/")) else record { at = at; slash = slash; wild = false; gone = true }) .gone ≡ true →
+          (if s then heldFrom at slash else if t then heldFrom (suc at) (eqb c (code "/")) else record { at = at; slash = slash; wild = false; gone = true })
+          ≡ record { at = at; slash = slash; wild = false; gone = true }
+      go true t q = absurd (false≢true q)
+      go false true q = absurd (false≢true q)
+      go false false q = refl
+
+  module _ {k : ℕ} (kept : k ≡ (if slash && eqb c (code "/") then 0 else 1)) (e : heldByte path (heldFrom at slash) c .gone ≡ false) where
+    pub held-goes : heldByte path (heldFrom at slash) c ≡ heldFrom (at + k) (eqb c (code "/"))
+    unfolding heldByte
+    held-goes = go slash (eqb c (code "/")) (ltb at (length path) && eqb (getD path at 0) c) kept e
+      where
+        go : (s b t : Bool) → k ≡ (if s && b then 0 else 1) →
+            (if s && b then heldFrom at s else if t then heldFrom (suc at) b else record { at = at; slash = s; wild = false; gone = true }) .gone ≡ false →
+            (if s && b then heldFrom at s else if t then heldFrom (suc at) b else record { at = at; slash = s; wild = false; gone = true }) ≡ heldFrom (at + k) b
+        go true true t z q = let y : at + k ≡ at = omega arith in rw y
+        go true false true z q = let y : at + k ≡ suc at = omega arith in rw y
+        go true false false z q = absurd (false≢true (sym q))
+        go false b true z q = let y : at + k ≡ suc at = omega arith in rw y
+        go false b false z q = absurd (false≢true (sym q))
+
+    pub held-room : at + k ≤ max at (length path)
+    unfolding heldByte
+    held-room = go (slash && eqb c (code "/")) (ltb at (length path)) (eqb (getD path at 0) c) refl kept e
+      where
+        go : (s t u : Bool) → ltb at (length path) ≡ t → k ≡ (if s then 0 else 1) →
+            (if s then heldFrom at slash else if t && u then heldFrom (suc at) (eqb c (code "/")) else record { at = at; slash = slash; wild = false; gone = true }) .gone ≡ false →
+            at + k ≤ max at (length path)
+        go true t u l z q = omega arith
+        go false true u l z q = omega (arith, ltb-true at (length path) l)
+        go false false u l z q = absurd (false≢true (sym q))
+
+pub held-code : (path : List ℕ) (text l : List ℕ) (n i : ℕ) → i < n → n ≤ length l → (h : Held) {r : Held} → heldPiece path h (decode text (getD l i 0)) ≡ r →
+    heldPieces path r (map (decode text) (drop (i + 1) (take n l))) ≡ heldPieces path h (map (decode text) (drop i (take n l)))
+unfolding heldPieces
+held-code path text l n i a b h e = rw (next-code l n i a b, ← e)
+
+pub held-end : (path : List ℕ) (text l : List ℕ) (n i : ℕ) → n ≤ i → (h : Held) → heldPieces path h (map (decode text) (drop i (take n l))) ≡ h
+unfolding heldPieces
+held-end path text l n i a h = rw (drop-of-length-le (take n l) {i = i} (omega (arith, length-take n l)))
+
+-- those of a list, and then those of another
+pub held-then : (path : List ℕ) (h : Held) (ps qs : List Piece) → heldPieces path h (ps ++ qs) ≡ heldPieces path (heldPieces path h ps) qs
+unfolding heldPieces
+held-then path h [] qs = refl
+held-then path h (p ∷ ps) qs = held-then path (heldPiece path h p) ps qs
+
+-- behind a piece that is no literal, and one that differed, nothing changes
+pub held-over : (path : List ℕ) (h : Held) (ps : List Piece) → (h .wild || h .gone) ≡ true → heldPieces path h ps ≡ h
+unfolding heldPieces
+held-over path h [] e = refl
+held-over path h (p ∷ ps) e = ap (λ (z : Held). heldPieces path z ps) (sym (held-stays path h e p)) ∙ held-over path h ps e
+
+pub held-gone : (path : List ℕ) (h : Held) (ps : List Piece) → h .gone ≡ true → heldPieces path h ps ≡ h
+held-gone path h ps e = held-over path h ps (or-right (h .wild) (h .gone) e)

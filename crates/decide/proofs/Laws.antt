@@ -16,12 +16,13 @@ use Rattle.pattern.specs.Table.{bytesAt, env}
 use Rattle.matcher.specs.Walk.{pathFits}
 use Rattle.statement.specs.Steps.{rulesFrom}
 use Rattle.profile.specs.Profiles.{File, fileOf}
-use Rattle.profile.specs.Places.{Judged, Accepted, Rejected, judgedOf, profilesFrom, seenFile}
+use Rattle.profile.specs.Places.{Judged, Accepted, Rejected, judgedOf, profilesBy, profilesFrom, seenFile}
 use Rattle.profile.specs.declared.FileRead.{FileRead}
 use Rattle.findings.specs.Findings.{Access, findings}
 use Rattle.answer.specs.Answers.{answerFrom, refusal}
 use Rattle.answer.specs.declared.Answer.{Answer}
-use Rattle.request.specs.Requests.{badAsked, badPath, doubled}
+use Rattle.request.specs.Requests.{badAsked, badPath}
+use Rattle.request.proofs.Laws.{path-short}
 use Rattle.decide.specs.Decide.{answerBy, answerIn, answerOf}
 use Rattle.decide.specs.Places.{foundFrom}
 use Rattle.decide.specs.declared.Found.{Found}
@@ -31,19 +32,7 @@ use Rattle.decide.specs.declared.Found.the-variants.{Rules, Nowhere}
 
 -- a path that is not refused fits
 pub good-fits : (s : List ℕ) → badPath s ≡ false → pathFits s ≡ true
-unfolding badPath
-good-fits s e = le-leb (length s) 4095 (ltb-false 4095 (length s) (second (isEmpty s) (ltb 4095 (length s)) (not (begins (code "/") s)) (holds nul s) (doubled s) e))
-  where
-    second : (a b c d e : Bool) → (a || b || c || d || e) ≡ false → b ≡ false
-    second false false c d e h = refl
-    second false true false false false h = h
-    second false true false false true h = h
-    second false true false true e h = h
-    second false true true d e h = h
-    second true b c d e h = absurd (false≢true (sym h ∙ top b c d e))
-      where
-        top : (b c d e : Bool) → (true || b || c || d || e) ≡ true
-        top b c d e = refl
+good-fits s e = le-leb (length s) 4095 (path-short s e)
 
 -- ---- the profile of a name
 
@@ -67,7 +56,7 @@ answerOfFound vs q asked s Nowhere = refusal 11 0
 
 pub answer-found : (vs : List Variable) (q : Access) (asked : ℕ) (s t : List ℕ) (k i : ℕ) (name : List ℕ)
     → answerIn vs q asked name (profilesFrom vs s t k i) ≡ answerOfFound vs q asked s (foundFrom s t k i name)
-unfolding answerIn profilesFrom foundFrom
+unfolding answerIn profilesBy foundFrom
 answer-found vs q asked s t zero i name = refl
 answer-found vs q asked s t (suc k) i name = go (same (bytesAt s t (4 * i)) name) (answer-found vs q asked s t k (i + 1) name)
   where

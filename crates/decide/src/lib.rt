@@ -3,6 +3,7 @@ use answer::Answer;
 use answer::finish;
 use answer::refused;
 use perms::Perms;
+use profile::RULES;
 use profile::read;
 use request::is_bad_asked;
 use request::is_bad_path;
@@ -89,7 +90,7 @@ pub fn decide(text: &[u8], name: &[u8], path: &[u8], asked: Perms, owner: bool) 
         return refused(BAD_ASKED, 0);
     }
     let mut vars = [0usize; 1120];
-    let f = read(text, &mut vars);
+    let f = read(text, &mut vars, RULES);
     let refusal = f.refusal;
     if f.refused {
         return refused(refusal.number, refusal.line);

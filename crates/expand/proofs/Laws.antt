@@ -1,21 +1,25 @@
 -- An expansion written piece by piece, and one chosen by its number.
 use Prim.Native.Nat.{ℕ, zero, suc, _+_, _*_, _-_, _≤_, _<_, min}
 use Prim.Native.Char.{code}
-use mathlib.Core.Path.{_≡_, refl, sym, ap, _∙_}
+use mathlib.Core.Path.{_≡_, refl, sym, ap, ap₂, _∙_}
 use mathlib.Core.List.{List, [], _∷_, _++_, map, append-assoc, append-nil}
 use mathlib.Core.Bool.{Bool, true, false, _&&_}
-use lib.ListN.{length, take, drop, length-append, length-map, length-take, set, length-set}
-use lib.Seq.{take-suc-set, take-all, take-at}
+use lib.ListN.{length, getD, take, drop, length-append, length-map, length-take, set, length-set}
+use lib.Seq.{take-suc-set, take-all, take-at, drop-cons, drop-drop}
 use lib.Dec.{eqb}
 use borrow.Author.Tests.{le-leb, lt-leb, lt-ltb, le-ltb}
+use native.Mathlib.Nat.{div-one}
 use native.Mathlib.Numerals.{add-one}
 use native.Mathlib.Omega.{arith}
-use Rattle.scan.specs.Bytes.{span, if_then_else_}
-use Rattle.pattern.specs.Pieces.{Piece, Part, part, parts}
-use Rattle.pattern.specs.Items.{Single, Among, before, item, isClosed, alternatives, body}
+use Rattle.scan.specs.Bytes.{run, span, if_then_else_}
+use Rattle.pattern.specs.Pieces.{Piece, Byte, Part, part, parts}
+use Rattle.pattern.specs.Items.{Item, items, Single, Among, before, item, isClosed, alternatives, body}
 use Rattle.pattern.specs.Places.{partAt, partOf, itemAt, itemOf}
 use Rattle.pattern.specs.Codes.{decode}
-use Rattle.pattern.specs.Expansions.{ofParts, oneOf}
+use Rattle.pattern.specs.Expansions.{ofParts, ofItems, oneOf}
+use Rattle.pattern.specs.Literals.{ordinary}
+use Rattle.pattern.proofs.Literals.{literalPart, literalItem, parts-run, items-run}
+use Rattle.pattern.proofs.Codes.{decode-byte}
 use Rattle.pattern.specs.Reads.{seenPart, seenItem}
 use Rattle.pattern.specs.Table.{bytesAt, valuesFrom, valuesOf, numberOf}
 use Rattle.pattern.specs.declared.ItemRead.{ItemRead}
@@ -25,7 +29,10 @@ use Rattle.pattern.proofs.Laws.{number-le}
 use Rattle.sizes.specs.declared.Size.{Size}
 use Rattle.sizes.specs.Numbered.{Numbered, numbering, lowOf, highOf, partBy, oneBy}
 use Rattle.sizes.proofs.Steps.{values-next, values-last, alternative-first, alternative-next, alternative-end, byNumber, name-number}
-use Rattle.expand.specs.Write.{textFits, Wrote, Written}
+use Rattle.codes.specs.declared.Held.{Held}
+use Rattle.codes.specs.Held.{heldNone, heldPieces, differs}
+use Rattle.codes.proofs.Laws.{held-then, held-gone}
+use Rattle.expand.specs.Write.{textFits, Wrote, Written, Drafted}
 
 -- ---- the buffer
 
@@ -43,7 +50,7 @@ module _ (text : List ℕ) where
         all = rw append-nil (sym (take-all (length out) (map (decode text) (take m out)) (rw length-map (omega (arith, length-take m out)))));
       }
 
-  wrote-then : {out mid end : List ℕ} {m n r : ℕ} {xs ys : List Piece} →
+  pub wrote-then : {out mid end : List ℕ} {m n r : ℕ} {xs ys : List Piece} →
       Wrote text out m mid n xs → Wrote text mid n end r ys → Wrote text out m end r (xs ++ ys)
   wrote-then {out} {mid} {end} {m} {n} {r} {xs} {ys} p q =
       record {
@@ -116,6 +123,136 @@ module _ {text out : List ℕ} {m : ℕ} {ends : List Piece} where
   writing-all {left = left} rest p e =
       let q : p .done ≡ ends = sym (append-nil (p .done)) ∙ ap (λ (l : List Piece). p .done ++ l) (rw e) ∙ p .whole in
       rw (← q) (p .wrote)
+
+-- ---- literals in runs
+
+span-cons : (s : List ℕ) (i to : ℕ) → i < to → to ≤ length s → span s i to ≡ getD s i 0 ∷ span s (i + 1) to
+span-cons s i to h k = let z : to - i ≡ suc (to - suc i) = omega arith in rw (z, add-one, drop-cons s i 0 (omega arith))
+
+module _ {text out : List ℕ} {m : ℕ} {ends : List Piece} where
+  -- what comes next is written
+  pub writing-more : {end next : List ℕ} {r w : ℕ} {rest left : List Piece} (xs : List Piece) → Writing text out m end r rest ends → rest ≡ xs ++ left →
+      Wrote text end r next w xs → Writing text out m next w left ends
+  writing-more {left = left} xs p e w =
+      record {
+        done = p .done ++ xs;
+        wrote = wrote-then text (p .wrote) w;
+        whole = append-assoc (p .done) xs left ∙ ap (λ (l : List Piece). p .done ++ l) (sym e) ∙ p .whole;
+      }
+
+  pub writing-byte : (s : List ℕ) (i to : ℕ) → i < to → to ≤ length s → getD s i 0 < 256 → {end next : List ℕ} {r w : ℕ} →
+      Writing text out m end r (map Byte (span s i to)) ends → Wrote text end r next w (decode text (getD s i 0) ∷ []) → Writing text out m next w (map Byte (span s (i + 1) to)) ends
+  writing-byte s i to h k b p w =
+      writing-more (Byte (getD s i 0) ∷ []) p (ap (map Byte) (span-cons s i to h k)) (rw decode-byte at w)
+
+  pub writing-done : {end : List ℕ} {r : ℕ} {rest : List Piece} → Writing text out m end r rest ends → rest ≡ [] → Wrote text out m end r ends
+  writing-done p e =
+      let q : p .done ≡ ends = sym (append-nil (p .done)) ∙ ap (λ (l : List Piece). p .done ++ l) (sym e) ∙ p .whole in
+      rw (← q) (p .wrote)
+
+pub run-done : (s : List ℕ) (i to : ℕ) → to ≤ i → map Byte (span s i to) ≡ []
+run-done s i to h = let z : to - i ≡ 0 = omega arith in rw z
+
+-- the numbers of what stands behind literals are those of all
+module _ (f : List ℕ → Numbered) (d : ℕ) where
+  high-one : highOf d 1 ≡ d
+  unfolding highOf
+  high-one = div-one d
+
+  literal-parts : (l : List ℕ) (r : List Part) → ofParts numbering f (map literalPart l ++ r) .nth d ≡ map Byte l ++ ofParts numbering f r .nth d
+  unfolding ofParts
+  literal-parts [] r = refl
+  literal-parts (b ∷ l) r = ap (λ (x : List Piece). Byte b ∷ x) (ap (ofParts numbering f (map literalPart l ++ r) .nth) high-one ∙ literal-parts l r)
+
+  literal-items : (l : List ℕ) (r : List Item) → ofItems numbering f (map literalItem l ++ r) .nth d ≡ map Byte l ++ ofItems numbering f r .nth d
+  unfolding ofItems
+  literal-items [] r = refl
+  literal-items (b ∷ l) r = ap (λ (x : List Piece). Byte b ∷ x) (ap (ofItems numbering f (map literalItem l ++ r) .nth) high-one ∙ literal-items l r)
+
+  module _ (s : List ℕ) (i next : ℕ) (n : next ≡ i + run ordinary (drop i s)) where
+    taken : take (run ordinary (drop i s)) (drop i s) ≡ span s i next
+    taken = ap (λ (k : ℕ). take k (drop i s)) (let e : run ordinary (drop i s) ≡ next - i = omega arith in e)
+
+    behind : drop (run ordinary (drop i s)) (drop i s) ≡ drop next s
+    behind = drop-drop (run ordinary (drop i s)) i s ∙ ap (λ (k : ℕ). drop k s) (sym n)
+
+    pub parts-behind : ofParts numbering f (parts 0 (drop i s)) .nth d ≡ map Byte (span s i next) ++ ofParts numbering f (parts 0 (drop next s)) .nth d
+    parts-behind =
+        ap (λ (l : List Part). ofParts numbering f l .nth d) (parts-run (drop i s)) ∙ literal-parts (take (run ordinary (drop i s)) (drop i s)) _
+        ∙ ap₂ (λ (x l : List ℕ). map Byte x ++ ofParts numbering f (parts 0 l) .nth d) taken behind
+
+    pub items-behind : ofItems numbering f (items 0 (drop i s)) .nth d ≡ map Byte (span s i next) ++ ofItems numbering f (items 0 (drop next s)) .nth d
+    items-behind =
+        ap (λ (l : List Item). ofItems numbering f l .nth d) (items-run (drop i s)) ∙ literal-items (take (run ordinary (drop i s)) (drop i s)) _
+        ∙ ap₂ (λ (x l : List ℕ). map Byte x ++ ofItems numbering f (items 0 l) .nth d) taken behind
+
+-- ---- what is written is held to a path
+
+map-drop : {A B : Type 0} (f : A → B) (k : ℕ) (l : List A) → map f (drop k l) ≡ drop k (map f l)
+map-drop f zero l = refl
+map-drop f (suc k) [] = refl
+map-drop f (suc k) (x ∷ l) = map-drop f k l
+
+-- what stands first stays first
+first-part : (n : ℕ) (a b : List Piece) → length a ≤ n → take n (a ++ b) ≡ a ++ drop (length a) (take n (a ++ b))
+first-part n [] b h = refl
+first-part zero (x ∷ a) b h = absurd (omega arith)
+first-part (suc n) (x ∷ a) b h = ap (λ (l : List Piece). x ∷ l) (first-part n a b (omega arith))
+
+-- a list that is cut goes on with what is left of the room
+cut-then : (n : ℕ) (a b : List Piece) → take n (a ++ b) ≡ take n a ++ take (n - length a) b
+cut-then n [] b = let z : n - 0 ≡ n = omega arith in rw z (ap (λ (l : List Piece). l ++ take n b) (sym (take-all n [] (omega arith))))
+cut-then zero (x ∷ a) b = let z : 0 - length (x ∷ a) ≡ 0 = omega arith in rw z
+cut-then (suc n) (x ∷ a) b = let z : suc n - length (x ∷ a) ≡ n - length a = omega arith in rw z (ap (λ (l : List Piece). x ∷ l) (cut-then n a b))
+
+module _ (text : List ℕ) (slash : Bool) (path : List ℕ) where
+  -- what the first codes of a buffer come to
+  abbrev pub heldTo : List ℕ → ℕ → Held
+  heldTo out w = heldPieces path (heldNone slash) (map (decode text) (take w out))
+
+  pub held-more : {out mid : List ℕ} {w r : ℕ} {xs : List Piece} {h next : Held} → w ≤ length out → Wrote text out w mid r xs → h ≡ heldTo out w →
+      next ≡ heldPieces path h (map (decode text) (drop w (take r mid))) → next ≡ heldTo mid r
+  held-more {out} {mid} {w} {r} {xs} k p e n =
+      let a = map (decode text) (take w out) in
+      let l : length a ≡ w = length-front text out w k in
+      let m : map (decode text) (take r mid) ≡ a ++ drop w (map (decode text) (take r mid)) =
+      rw (p .all) (first-part (length out) a xs (omega arith) ∙ ap (λ (j : ℕ). a ++ drop j (take (length out) (a ++ xs))) l) in
+      n ∙ rw (e, map-drop (decode text) w (take r mid)) (sym (held-then path (heldNone slash) a (drop w (map (decode text) (take r mid)))))
+      ∙ ap (heldPieces path (heldNone slash)) (sym m)
+
+  -- given up
+  pub drafted-gone : {out end : List ℕ} {r : ℕ} {rest xs : List Piece} {h : Held} → length text ≤ 65535 → Writing text out 0 end r rest xs → h ≡ heldTo end r →
+      h .gone ≡ true → Drafted text out end slash path (record { count = 0; gone = true }) (if textFits text then xs else [])
+  drafted-gone {out} {end} {r} {rest} {xs} {h} short p e g =
+      let q : map (decode text) (take r end) ≡ take (length out) (p .done) = p .wrote .all in
+      let k : heldPieces path (heldNone slash) (take (length out) (p .done)) ≡ h = ap (heldPieces path (heldNone slash)) (sym q) ∙ sym e in
+      let w : heldPieces path (heldNone slash) (take (length out) xs) ≡ h =
+      rw (← p .whole, cut-then (length out) (p .done) rest, held-then path (heldNone slash) (take (length out) (p .done)) (take (length out - length (p .done)) rest), k)
+      (held-gone path h (take (length out - length (p .done)) rest) g) in
+      rw (le-leb (length text) 65535 short)
+      (record {
+        gone = sym (ap (λ (z : Held). z .gone) w ∙ g);
+        written = record { size = p .wrote .size; fits = omega arith; all = sym (take-all (length out) [] (omega arith)) };
+      })
+
+  -- written to its end
+  pub drafted-all : {out end : List ℕ} {r : ℕ} {xs : List Piece} {h : Held} → length text ≤ 65535 → Wrote text out 0 end r xs → h ≡ heldTo end r →
+      h .gone ≡ false → Drafted text out end slash path (record { count = r; gone = false }) (if textFits text then xs else [])
+  drafted-all {xs = xs} short p e g =
+      record {
+        gone = rw (le-leb (length text) 65535 short) (sym (sym (ap (λ (z : Held). z .gone) (e ∙ ap (heldPieces path (heldNone slash)) (p .all))) ∙ g));
+        written = written-all text short p;
+      }
+
+  -- none of a text too long
+  pub drafted-none : (out : List ℕ) (xs : List Piece) → 65535 < length text →
+      Drafted text out out slash path (record { count = 0; gone = false }) (if textFits text then xs else [])
+  unfolding heldPieces
+  drafted-none out xs long =
+      record {
+        gone = rw (lt-leb (length text) 65535 long) (ap (λ (l : List Piece). differs slash path l) (sym (take-all (length out) [] (omega arith))));
+        written = written-none text out xs long;
+      }
 
 -- ---- a loop that chooses: the number among what is left
 

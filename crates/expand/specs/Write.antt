@@ -1,12 +1,15 @@
 -- What is written of an expansion to a buffer, and what is asked of who writes it.
 use Prim.Native.Nat.{ℕ, _≤_}
 use mathlib.Core.Path.{_≡_}
-use mathlib.Core.List.{List, _++_, map}
+use mathlib.Core.List.{List, [], _++_, map}
 use mathlib.Core.Bool.{Bool}
 use lib.ListN.{length, take}
 use lib.Dec.{leb}
 use Rattle.pattern.specs.Pieces.{Piece}
 use Rattle.pattern.specs.Codes.{decode}
+use Rattle.scan.specs.Bytes.{if_then_else_}
+use Rattle.codes.specs.Held.{differs}
+use Rattle.expand.specs.declared.Draft.{Draft}
 
 -- a text that is refused by no. 1 has more bytes
 abbrev pub textFits : List ℕ → Bool
@@ -28,3 +31,8 @@ pub record Written (text out end : List ℕ) (r : ℕ) (xs : List Piece) : Type 
   pub size : length end ≡ length out
   pub fits : r ≤ length out
   pub all : map (decode text) (take r end) ≡ take (length out) xs
+
+-- an expansion is written, and one of which a literal among the first differs from the path is given up
+pub record Drafted (text out end : List ℕ) (slash : Bool) (path : List ℕ) (r : Draft) (xs : List Piece) : Type 0 where
+  pub gone : r .gone ≡ differs slash path (take (length out) xs)
+  pub written : Written text out end (r .count) (if r .gone then [] else xs)

@@ -1,5 +1,8 @@
 // One expansion of a pattern, by its number, written as codes to a lent buffer.
+use codes::Held;
+use codes::hold;
 use ends::item_end;
+use ends::literal_end;
 use ends::part_end;
 use ends::seek;
 use measure::item_size;
@@ -15,17 +18,24 @@ use scan::span;
 use variables::cell;
 use variables::named;
 ghost use mathlib.Core.Path.{_≡_};
-ghost use mathlib.Core.List.{List, _∷_, []};
+ghost use mathlib.Core.List.{List, _∷_, [], map};
 ghost use Prim.Native.Nat.{ℕ, _+_, _≤_, _<_};
 ghost use lib.ListN.{length};
 ghost use Rattle.scan.specs.Bytes.{span, if_then_else_};
+ghost use Rattle.pattern.specs.Pieces.{Byte};
 ghost use Rattle.pattern.specs.Items.{alternatives};
 ghost use Rattle.pattern.specs.Places.{itemAt};
 ghost use Rattle.pattern.specs.Codes.{decode};
 ghost use Rattle.pattern.specs.Reads.{codeIn, seenPart};
 ghost use Rattle.pattern.specs.Table.{valuesOf};
 ghost use Rattle.sizes.specs.Numbered.{lowOf, highOf, partBy, valueBy, oneBy, itemBy, patternBy};
-ghost use Rattle.expand.specs.Write.{textFits, Asked, Wrote, Written};
+ghost use Rattle.expand.specs.Write.{textFits, Asked, Wrote, Drafted};
+
+// How many codes were written, and whether the expansion was given up.
+pub struct Draft {
+    pub count: usize,
+    pub gone: bool,
+}
 
 // A value or alternative, and the number of one of its expansions.
 pub struct Choice {
@@ -46,11 +56,25 @@ fn push(out: &mut [u32], m: usize, code: u32) -> usize
     m
 }
 
-// The low digit of a number to base c, and what is left of it.
+// The bytes from one place to before another as literals, as far as there is room; the next place.
+fn push_run(out: &mut [u32], m: usize, s: &[u8], from: usize, to: usize) -> usize
+    requires { ⌜ (m ≤ length (now out)) × (to ≤ length (now s)) ⌝ }
+    ensures { λ r. ⌜ ((text : List ℕ) → Wrote text (now (out .entry)) m (now (out .exit)) r (map Byte (span (now (s .entry)) from to))) ⌝ }
+{
+    let mut w = m;
+    let mut i = from;
+    while i < to {
+        w = push(out, w, s[i] as u32);
+        i += 1;
+    }
+    w
+}
+
+// The low digit of a number to base c, and what is left of it; to base 1, that of most parts, nothing is divided.
 fn low(d: usize, c: usize) -> usize
     ensures { λ r. ⌜ r ≡ lowOf d c ⌝ }
 {
-    if c == 0 {
+    if c <= 1 {
         return 0;
     }
     d % c
@@ -59,6 +83,9 @@ fn low(d: usize, c: usize) -> usize
 fn high(d: usize, c: usize) -> usize
     ensures { λ r. ⌜ r ≡ highOf d c ⌝ }
 {
+    if c == 1 {
+        return d;
+    }
     if c == 0 {
         return 0;
     }
@@ -191,7 +218,9 @@ fn write_value(
         let c = size.count;
         w = write_part(n, text, vars, sizes, p, low(left, c), out, w);
         left = high(left, c);
-        at = part_end(s, at);
+        let next = part_end(s, at);
+        at = literal_end(s, next);
+        w = push_run(out, w, s, next, at);
     }
     w
 }
@@ -225,7 +254,8 @@ fn write_item(
     }
 }
 
-// Expansion d of the pattern from a to before e, as far as there is room; how many codes that is. None of a text too long.
+// Expansion d of the pattern from a to before e, as far as there is room, where a / stands before it, or not. It is given up where
+// one of its first literals differs from the path. None of a text too long.
 pub fn write_pattern(
     text: &[u8],
     vars: &[usize],
@@ -234,15 +264,26 @@ pub fn write_pattern(
     a: usize,
     e: usize,
     d: usize,
+    slash: bool,
+    path: &[u8],
     out: &mut [u32],
-) -> usize
-    ensures { λ r. ⌜ Written (now (text .entry)) (now (out .entry)) (now (out .exit)) r
+) -> Draft
+    ensures { λ r. ⌜ Drafted (now (text .entry)) (now (out .entry)) (now (out .exit)) slash (now (path .entry)) r
         (if textFits (now (text .entry)) then patternBy (now (text .entry)) (now (vars .entry)) n (now (sizes .entry)) (span (now (text .entry)) a e) .nth d else []) ⌝ }
 {
     if 65535 < text.len() {
-        return 0;
+        return Draft {
+            count: 0,
+            gone: false,
+        };
     }
     let s = span(text, a, e);
+    let mut held = Held {
+        at: 0,
+        slash: slash,
+        wild: false,
+        gone: false,
+    };
     let mut left = d;
     let mut w = 0;
     let mut at = 0;
@@ -250,9 +291,22 @@ pub fn write_pattern(
         let i = item_at(text, a, e, at);
         let size = item_size(text, vars, n, sizes, i);
         let c = size.count;
+        let from = w;
         w = write_item(n, text, vars, sizes, a, e, at, low(left, c), out, w);
+        let next = item_end(s, at);
+        at = literal_end(s, next);
+        w = push_run(out, w, s, next, at);
+        held = hold(out, from, w, held, path);
+        if held.gone {
+            return Draft {
+                count: 0,
+                gone: true,
+            };
+        }
         left = high(left, c);
-        at = item_end(s, at);
     }
-    w
+    Draft {
+        count: w,
+        gone: false,
+    }
 }

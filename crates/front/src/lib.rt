@@ -3,36 +3,59 @@ use ends::is_ordinary;
 use scan::span;
 ghost use mathlib.Core.Path.{_≡_};
 ghost use Rattle.scan.specs.Bytes.{span};
-ghost use Rattle.front.specs.Front.{beginning, front, plainAfter};
+ghost use Rattle.front.specs.Front.{leadOf, plainAfter};
+
+// How a path begins: whether with the front of a pattern, how long that is, and whether a / stands before what follows it.
+pub struct Led {
+    pub fits: bool,
+    pub len: usize,
+    pub slash: bool,
+}
 
 // Whether a byte is a literal by itself, and no second / in a row.
-fn plain(b: u8, slash: bool) -> bool
+pub fn plain(b: u8, slash: bool) -> bool
     ensures { λ r. ⌜ r ≡ plainAfter slash b ⌝ }
 {
     is_ordinary(b) & !(slash & (b == b'/'))
 }
 
-// Whether a path begins with the front of the pattern from a to before e.
-pub fn fits_front(text: &[u8], a: usize, e: usize, path: &[u8]) -> bool
-    ensures { λ r. ⌜ r ≡ beginning (front (span (now (text .entry)) a e)) (now (path .entry)) ⌝ }
+// What the front of the pattern from a to before e does to a path, where a / stands before both, or not.
+pub fn lead(text: &[u8], a: usize, e: usize, slash: bool, path: &[u8]) -> Led
+    ensures { λ r. ⌜ r ≡ leadOf slash (span (now (text .entry)) a e) (now (path .entry)) ⌝ }
 {
     let pattern = span(text, a, e);
-    let mut slash = false;
+    let mut after = slash;
     let mut i = 0;
     while i < pattern.len() {
         let b = pattern[i];
-        if plain(b, slash) {
+        if plain(b, after) {
             if path.len() <= i {
-                return false;
+                return Led {
+                    fits: false,
+                    len: 0,
+                    slash: false,
+                };
             }
             if path[i] != b {
-                return false;
+                return Led {
+                    fits: false,
+                    len: 0,
+                    slash: false,
+                };
             }
-            slash = b == b'/';
+            after = b == b'/';
             i += 1;
         } else {
-            return true;
+            return Led {
+                fits: true,
+                len: i,
+                slash: after,
+            };
         }
     }
-    true
+    Led {
+        fits: true,
+        len: i,
+        slash: after,
+    }
 }

@@ -1,46 +1,119 @@
 -- Every expansion tried by its number; a pattern without fault under a right table of sizes.
-use Prim.Native.Nat.{ℕ, zero, suc, _+_, _≤_, _<_}
+use Prim.Native.Nat.{ℕ, zero, suc, _+_, _-_, _≤_, _<_}
+use Prim.Native.Char.{code}
 use mathlib.Core.Path.{_≡_, refl, sym, ap, ap₂, _∙_}
 use mathlib.Core.List.{List, [], _∷_, map}
-use mathlib.Core.Bool.{Bool, true, false, _&&_, _||_, or-assoc, or-false}
+use mathlib.Core.Bool.{Bool, true, false, not, _&&_, _||_, false≢true, and-false, or-assoc, or-false}
 use native.Mathlib.Nat.{not-suc-le-zero}
 use native.Mathlib.Numerals.{add-one}
 use native.Mathlib.Omega.{arith}
-use lib.ListN.{length, getD, take}
-use lib.Seq.{take-all}
+use lib.ListN.{length, getD, take, drop, length-drop, length-map, drop-of-length-le}
+use lib.Seq.{take-all, drop-cons}
 use lib.Dec.{eqb, ltb}
-use borrow.Author.Tests.{eq-eqb, eqb-true, eqb-false, ltb-false}
-use Rattle.scan.specs.Bytes.{every, some, if_then_else_}
-use Rattle.pattern.specs.Pieces.{Piece}
+use borrow.Author.Tests.{eq-eqb, ne-eqb, eqb-true, eqb-false, ltb-true, ltb-false, le-leb, leb-true}
+use Rattle.scan.specs.Bytes.{every, some, holds, span, if_then_else_}
+use Rattle.pattern.specs.Pieces.{Piece, Byte, One, Star, StarStar, Class}
 use Rattle.pattern.specs.Items.{patternForm, patternNames}
 use Rattle.pattern.specs.Codes.{decode}
-use Rattle.pattern.specs.Expansions.{Variable, isSet, expansions, count, longest, isLiteral, joined}
+use Rattle.pattern.specs.Expansions.{Variable, isSet, expansions, count, longest, isLiteral, joinedAfter, joined}
 use Rattle.pattern.specs.Faults.{patternFault, tooLong, tooMany, rooted}
 use Rattle.pattern.specs.Table.{env}
+use Rattle.pattern.specs.Literals.{special, ordinary}
+use Rattle.pattern.proofs.Names.{same-expansions, same-fault}
 use Rattle.sizes.specs.Sizes.{Known}
 use Rattle.sizes.specs.Numbered.{Numbered, patternBy}
 use Rattle.sizes.proofs.Choices.{count-length}
 use Rattle.sizes.proofs.Laws.{size-count}
 use Rattle.sizes.proofs.Numbered.{pattern-right}
-use Rattle.expand.specs.Write.{textFits, Written}
+use Rattle.faults.specs.Sized.{faultBy}
+use Rattle.faults.proofs.Laws.{faults-known}
+use Rattle.expand.specs.Write.{textFits, Written, Drafted}
+use Rattle.expand.specs.declared.Draft.{Draft}
+use Rattle.codes.specs.declared.Held.{Held}
+use Rattle.codes.specs.Held.{heldByte, heldWild, heldPiece, heldPieces, differs}
+use Rattle.codes.proofs.Laws.{held-over}
+use Rattle.matcher.proofs.Laws.{matches-nil, matches-one}
 use Rattle.matcher.specs.Match.{matches, matchesSome, matchesExactly}
 use Rattle.matcher.specs.Walk.{pathFits}
 use Rattle.scan.proofs.Bools.{and-left, and-right, or-right}
-use Rattle.front.specs.Front.{beginning, front}
-use Rattle.front.proofs.Laws.{front-none, front-none-exactly}
+use Rattle.scan.proofs.Laws.{drop-span}
+use Rattle.front.specs.declared.Led.{Led}
+use Rattle.front.specs.Front.{beginning, plainAfter, frontAfter, front, slashAfter, leadOf, someAfter, exactAfter}
+use Rattle.front.proofs.Laws.{plain-expansions, some-after, exact-after, behind, behind-exactly, front-none, front-none-exactly, lead-some, lead-len, lead-slash, rest-after}
+use Rattle.choices.specs.Choices.{opens}
+use Rattle.choices.proofs.Laws.{opens-none}
 use Rattle.glob.specs.declared.Matched.{Matched}
-use Rattle.glob.specs.Glob.{noMatch, matchedOf, matchedBy, someBelow, matchedAt, matchedBelow, matchedAll, matchedIn}
+use Rattle.glob.specs.Glob.{noMatch, matchedOf, matchedBy, someBelow, matchedAt, matchedBelow, matchedAll, matchedBehind, matchedIn}
+
+not-false : (a : Bool) → not a ≡ true → a ≡ false
+not-false true e = absurd (false≢true e)
+not-false false e = refl
 
 -- ---- one expansion
 
-pub expansion-matched : (text path : List ℕ) (x : List Piece) {out end : List ℕ} {r : ℕ} {literal found : Bool} {left : List Piece} →
+pub expansion-matched : (text path : List ℕ) (slash : Bool) (x : List Piece) {out end : List ℕ} {r : ℕ} {literal found : Bool} {left : List Piece} →
     (textFits text && pathFits path) ≡ true → Written text out end r (if textFits text then x else []) → length out ≡ 1024 →
-    literal ≡ every isLiteral (map (decode text) (take r end)) → left ≡ joined (map (decode text) (take r end)) →
-    found ≡ (pathFits path && matches left path) → _≡_ {A = Matched} (record { some = found; exact = literal && found }) (matchedBy (take 1024 x) path)
+    literal ≡ every isLiteral (map (decode text) (take r end)) → left ≡ joinedAfter slash (map (decode text) (take r end)) →
+    found ≡ (pathFits path && matches left path) → _≡_ {A = Matched} (record { some = found; exact = literal && found }) (matchedBy slash (take 1024 x) path)
 unfolding matchedBy
-expansion-matched text path x {end = end} {r = r} fits w room l j f =
+expansion-matched text path slash x {end = end} {r = r} fits w room l j f =
     let v : map (decode text) (take r end) ≡ take 1024 x = w .all ∙ rw (room, and-left (textFits text) (pathFits path) fits) in
     rw (l, f, and-right (textFits text) (pathFits path) fits, j, v)
+
+-- what is drafted and not given up is written
+pub draft-written : (text path : List ℕ) (slash : Bool) (xs : List Piece) {out end : List ℕ} {r : Draft} → Drafted text out end slash path r xs → r .gone ≡ false →
+    Written text out end (r .count) xs
+draft-written text path slash xs d g = rw g at (d .written)
+
+-- where one of its first literals differs from the path, it does not match
+module _ (path : List ℕ) where
+  -- from a place of the path on, where all so far were literals that agree with it
+  abbrev from : ℕ → Bool → Held
+  from at slash = record { at = at; slash = slash; wild = false; gone = false }
+
+  -- a piece that is no literal
+  wild-none : {A : Type 0} (at : ℕ) (slash : Bool) (ps : List Piece) → heldPieces path (heldWild (from at slash)) ps .gone ≡ true → A
+  wild-none at slash ps e = absurd (false≢true (sym (ap (λ (h : Held). h .gone) (held-over path (heldWild (from at slash)) ps refl)) ∙ e))
+
+  -- a literal that is kept: it is the path's next byte and what follows differs, or it is not
+  byte-none : (c : ℕ) (ps : List Piece) (at : ℕ) (slash : Bool) → (heldPieces path (from (suc at) (eqb c (code "/"))) ps .gone ≡ true → matches (joinedAfter (eqb c (code "/")) ps) (drop (suc at) path) ≡ false) →
+      (t u : Bool) → ltb at (length path) ≡ t → eqb (getD path at 0) c ≡ u →
+      heldPieces path (if t && u then from (suc at) (eqb c (code "/")) else record { at = at; slash = slash; wild = false; gone = true }) ps .gone ≡ true →
+      matches (Byte c ∷ joinedAfter (eqb c (code "/")) ps) (drop at path) ≡ false
+  byte-none c ps at slash later false u p q e =
+      rw (drop-of-length-le path {i = at} (ltb-false at (length path) p)) (matches-nil (Byte c) (joinedAfter (eqb c (code "/")) ps))
+  byte-none c ps at slash later true false p q e =
+      rw (drop-cons path at 0 (ltb-true at (length path) p)) (matches-one (Byte c) (joinedAfter (eqb c (code "/")) ps) (getD path at 0) (drop (suc at) path) refl ∙ rw q)
+  byte-none c ps at slash later true true p q e =
+      rw (drop-cons path at 0 (ltb-true at (length path) p)) (matches-one (Byte c) (joinedAfter (eqb c (code "/")) ps) (getD path at 0) (drop (suc at) path) refl ∙ rw (q, later e))
+
+  differs-from : (ps : List Piece) (at : ℕ) (slash : Bool) → heldPieces path (from at slash) ps .gone ≡ true → matches (joinedAfter slash ps) (drop at path) ≡ false
+  unfolding heldPieces heldPiece heldByte joinedAfter
+  differs-from [] at slash e = absurd (false≢true e)
+  differs-from (One ∷ ps) at slash e = wild-none at slash ps e
+  differs-from (Star ∷ ps) at slash e = wild-none at slash ps e
+  differs-from (StarStar ∷ ps) at slash e = wild-none at slash ps e
+  differs-from (Class k ∷ ps) at slash e = wild-none at slash ps e
+  differs-from (Byte c ∷ ps) at slash e = go slash (eqb c (code "/")) refl (differs-from ps at true) (differs-from ps (suc at) (eqb c (code "/"))) e
+    where
+      go : (s t : Bool) → eqb c (code "/") ≡ t → (heldPieces path (from at true) ps .gone ≡ true → matches (joinedAfter true ps) (drop at path) ≡ false) →
+          (heldPieces path (from (suc at) (eqb c (code "/"))) ps .gone ≡ true → matches (joinedAfter (eqb c (code "/")) ps) (drop (suc at) path) ≡ false) →
+          heldPieces path
+          (if s && t then from at s
+          else if ltb at (length path) && eqb (getD path at 0) c then from (suc at) (eqb c (code "/"))
+          else record { at = at; slash = s; wild = false; gone = true }) ps .gone ≡ true →
+          matches (if s && t then joinedAfter true ps else Byte c ∷ joinedAfter (eqb c (code "/")) ps) (drop at path) ≡ false
+      go true true q here later h = here h
+      go true false q here later h = byte-none c ps at true later (ltb at (length path)) (eqb (getD path at 0) c) refl refl h
+      go false t q here later h = byte-none c ps at false later (ltb at (length path)) (eqb (getD path at 0) c) refl refl h
+
+pub expansion-gone : (text path : List ℕ) (slash : Bool) (x : List Piece) {out end : List ℕ} {r : Draft} → (textFits text && pathFits path) ≡ true →
+    Drafted text out end slash path r (if textFits text then x else []) → length out ≡ 1024 → r .gone ≡ true → noMatch ≡ matchedBy slash (take 1024 x) path
+unfolding matchedBy
+expansion-gone text path slash x fits d room g =
+    let q : differs slash path (take 1024 x) ≡ true =
+    rw (room, and-left (textFits text) (pathFits path) fits) at (sym (d .gone) ∙ g) in
+    rw (differs-from path (take 1024 x) 0 slash q, and-false)
 
 -- ---- all expansions, by number
 
@@ -54,21 +127,21 @@ below-at p (suc k) d h e = go (eqb d k) refl (below-at p k d)
     go false q f = let n : d ≡ k → ⊥ = eqb-false d k q in ap (λ (z : Bool). z || p k) (f (omega arith) e)
 
 -- the first d expansions were tried: one of them matches, or none, and none exactly
-pub record Tried (a : Numbered) (path : List ℕ) (d : ℕ) (found : Bool) : Type 0 where
-  pub hits : found ≡ matchedBelow a path d .some
-  pub exactly : false ≡ matchedBelow a path d .exact
+pub record Tried (slash : Bool) (a : Numbered) (path : List ℕ) (d : ℕ) (found : Bool) : Type 0 where
+  pub hits : found ≡ matchedBelow slash a path d .some
+  pub exactly : false ≡ matchedBelow slash a path d .exact
 
-module _ (a : Numbered) (path : List ℕ) where
-  pub tried-none : Tried a path 0 false
+module _ (slash : Bool) (a : Numbered) (path : List ℕ) where
+  pub tried-none : Tried slash a path 0 false
   unfolding someBelow
   tried-none = record { hits = refl; exactly = refl }
 
-  exact-hits : (x : List Piece) → matchedBy x path .exact ≡ true → matchedBy x path .some ≡ true
+  exact-hits : (x : List Piece) → matchedBy slash x path .exact ≡ true → matchedBy slash x path .some ≡ true
   unfolding matchedBy
-  exact-hits x q = and-right (every isLiteral x) (matches (joined x) path) q
+  exact-hits x q = and-right (every isLiteral x) (matches (joinedAfter slash x) path) q
 
-  module _ {d : ℕ} {m : Matched} (e : m ≡ matchedAt a path d) where
-    pub tried-more : {found : Bool} → Tried a path d found → m .exact ≡ false → Tried a path (d + 1) (found || m .some)
+  module _ {d : ℕ} {m : Matched} (e : m ≡ matchedAt slash a path d) where
+    pub tried-more : {found : Bool} → Tried slash a path d found → m .exact ≡ false → Tried slash a path (d + 1) (found || m .some)
     unfolding someBelow
     tried-more p k =
         rw add-one
@@ -77,12 +150,12 @@ module _ (a : Numbered) (path : List ℕ) where
           exactly = ap₂ (λ (x y : Bool). x || y) (p .exactly) (sym k ∙ ap (λ (z : Matched). z .exact) e);
         })
 
-    pub tried-found : (k : ℕ) → d < k → m .exact ≡ true → _≡_ {A = Matched} (record { some = true; exact = true }) (matchedBelow a path k)
+    pub tried-found : (k : ℕ) → d < k → m .exact ≡ true → _≡_ {A = Matched} (record { some = true; exact = true }) (matchedBelow slash a path k)
     tried-found k h q =
-        let x : matchedAt a path d .exact ≡ true = ap (λ (z : Matched). z .exact) (sym e) ∙ q in
-        rw (below-at (λ i. matchedAt a path i .exact) k d h x, below-at (λ i. matchedAt a path i .some) k d h (exact-hits (take 1024 (a .nth d)) x))
+        let x : matchedAt slash a path d .exact ≡ true = ap (λ (z : Matched). z .exact) (sym e) ∙ q in
+        rw (below-at (λ i. matchedAt slash a path i .exact) k d h x, below-at (λ i. matchedAt slash a path i .some) k d h (exact-hits (take 1024 (a .nth d)) x))
 
-  pub tried-all : {d : ℕ} {found : Bool} → Tried a path d found → (k : ℕ) → d ≡ k → _≡_ {A = Matched} (record { some = found; exact = false }) (matchedBelow a path k)
+  pub tried-all : {d : ℕ} {found : Bool} → Tried slash a path d found → (k : ℕ) → d ≡ k → _≡_ {A = Matched} (record { some = found; exact = false }) (matchedBelow slash a path k)
   tried-all p k e = rw (← e, p .hits, p .exactly)
 
 -- ---- by number or by the list
@@ -133,11 +206,14 @@ sized vs s e = go (ltb 256 (count vs s)) (ltb 1024 (longest (expansions vs s))) 
     go false true p q r = absurd (let z : _≡_ {A = ℕ} 0 1 = cc in omega arith)
     go false false p q r = (omega (arith, ltb-false 256 (count vs s) p, count-length vs s), omega (arith, ltb-false 1024 (longest (expansions vs s)) q))
 
-module _ {text vars : List ℕ} {n : ℕ} {table : List ℕ} (known : Known text vars n table) (pattern path : List ℕ)
-    (good : patternFault (env text vars n) pattern ≡ 0) where
-  within : (length (expansions (env text vars n) pattern) ≤ 256) × (longest (expansions (env text vars n) pattern) ≤ 1024)
-  within = sized (env text vars n) pattern (faultless (env text vars n) pattern good)
+abbrev Within : List (List Piece) → Type 0
+Within xs = (length xs ≤ 256) × (longest xs ≤ 1024)
 
+good-within : (vs : List Variable) (s : List ℕ) → patternFault vs s ≡ 0 → Within (expansions vs s)
+good-within vs s e = sized vs s (faultless vs s e)
+
+module _ {text vars : List ℕ} {n : ℕ} {table : List ℕ} (known : Known text vars n table) (slash : Bool) (pattern path : List ℕ)
+    (within : Within (expansions (env text vars n) pattern)) where
   same-nth : (d : ℕ) → d < length (expansions (env text vars n) pattern) →
       take 1024 (patternBy text vars n table pattern .nth d) ≡ getD (expansions (env text vars n) pattern) d []
   same-nth d h =
@@ -145,27 +221,196 @@ module _ {text vars : List ℕ} {n : ℕ} {table : List ℕ} (known : Known text
       ap (take 1024) (pattern-right known pattern .nth d (omega (arith, within .0)) h)
       ∙ take-all 1024 (getD xs d []) (omega (arith, length-longest xs d, within .1))
 
-  same-all : matchedAll (patternBy text vars n table pattern) path ≡
-      record { some = matchesSome (env text vars n) pattern path; exact = matchesExactly (env text vars n) pattern path }
-  unfolding matchesSome matchesExactly matchedBy
+  same-all : matchedAll slash (patternBy text vars n table pattern) path ≡
+      record { some = someAfter slash (env text vars n) pattern path; exact = exactAfter slash (env text vars n) pattern path }
+  unfolding someAfter exactAfter matchedBy
   same-all =
       let xs = expansions (env text vars n) pattern in
       let a = patternBy text vars n table pattern in
       let k : a .size .count ≡ length xs = omega (arith, size-count xs (pattern-right known pattern .size), within .0) in
-      let s = some-below (λ x. matchedBy x path .some) xs [] (λ d. matchedAt a path d .some) (λ d h. ap (λ (x : List Piece). matchedBy x path .some) (same-nth d h)) in
-      let e = some-below (λ x. matchedBy x path .exact) xs [] (λ d. matchedAt a path d .exact) (λ d h. ap (λ (x : List Piece). matchedBy x path .exact) (same-nth d h)) in
+      let s = some-below (λ x. matchedBy slash x path .some) xs [] (λ d. matchedAt slash a path d .some) (λ d h. ap (λ (x : List Piece). matchedBy slash x path .some) (same-nth d h)) in
+      let e = some-below (λ x. matchedBy slash x path .exact) xs [] (λ d. matchedAt slash a path d .exact) (λ d h. ap (λ (x : List Piece). matchedBy slash x path .exact) (same-nth d h)) in
       rw (k, s, e)
+
+-- ---- what stands behind the front
+
+-- no more expansions, and none longer
+longest-more : (b : ℕ) (xs : List (List Piece)) → longest xs ≤ longest (map (λ x. Byte b ∷ x) xs)
+unfolding longest
+longest-more b [] = omega arith
+longest-more b (x ∷ xs) = omega (arith, longest-more b xs)
+
+behind-within : (vs : List Variable) (s : List ℕ) (slash : Bool) → Within (expansions vs s) → Within (expansions vs (drop (length (frontAfter slash s)) s))
+unfolding frontAfter
+behind-within vs [] slash w = w
+behind-within vs (b ∷ s) slash w = go (plainAfter slash b) refl (behind-within vs s (eqb b (code "/")))
+  where
+    go : (t : Bool) → plainAfter slash b ≡ t → (Within (expansions vs s) → Within (expansions vs (drop (length (frontAfter (eqb b (code "/")) s)) s))) →
+        Within (expansions vs (drop (length (if t then b ∷ frontAfter (eqb b (code "/")) s else [])) (b ∷ s)))
+    go false e f = w
+    go true e f =
+        let p : expansions vs (b ∷ s) ≡ map (λ x. Byte b ∷ x) (expansions vs s) = plain-expansions vs b s (not-false (special b) (and-left (ordinary b) (not (slash && eqb b (code "/"))) e)) in
+        let v : Within (map (λ x. Byte b ∷ x) (expansions vs s)) = rw (← p) w in
+        f (omega (arith, v .0, length-map (expansions vs s) (λ x. Byte b ∷ x)), omega (arith, v .1, longest-more b (expansions vs s)))
+
+beginning-le : (f path : List ℕ) → beginning f path ≡ true → length f ≤ length path
+unfolding beginning
+beginning-le [] path e = omega arith
+beginning-le (a ∷ f) [] e = absurd (false≢true e)
+beginning-le (a ∷ f) (b ∷ path) e = omega (arith, beginning-le f path (and-right (eqb a b) (beginning f path) e))
+
+front-le : (slash : Bool) (s : List ℕ) → length (frontAfter slash s) ≤ length s
+unfolding frontAfter
+front-le slash [] = omega arith
+front-le slash (b ∷ s) = go (plainAfter slash b) (front-le (eqb b (code "/")) s)
+  where
+    go : (t : Bool) → length (frontAfter (eqb b (code "/")) s) ≤ length s → length (if t then b ∷ frontAfter (eqb b (code "/")) s else []) ≤ suc (length s)
+    go true h = omega arith
+    go false h = omega arith
+
+-- the path begins with the front: the places behind it
+module _ (s path : List ℕ) {l : Led} (told : l ≡ leadOf false s path) (fits : l .fits ≡ true) where
+  pub len-path : l .len ≤ length path
+  len-path = omega (arith, lead-len false s path l told fits, beginning-le (front s) path (lead-some false s path l told fits))
+
+  pub len-pattern : l .len ≤ length s
+  len-pattern = omega (arith, lead-len false s path l told fits, front-le false s)
+
+rest : (s : List ℕ) (k : ℕ) → take (length s - k) (drop k s) ≡ drop k s
+rest s k = take-all (length s - k) (drop k s) (omega (arith, length-drop k s))
+
+module _ (text path : List ℕ) (fits : (textFits text && pathFits path) ≡ true) where
+  pub short-text : length text ≤ 65535
+  short-text = leb-true (length text) 65535 (and-left (textFits text) (pathFits path) fits)
+
+  pub fits-rest : (k : ℕ) → (textFits text && pathFits (take (length path - k) (drop k path))) ≡ true
+  fits-rest k =
+      rw rest
+      (ap₂ _&&_ (and-left (textFits text) (pathFits path) fits)
+      (le-leb (length (drop k path)) 4095 (omega (arith, length-drop k path, leb-true (length path) 4095 (and-right (textFits text) (pathFits path) fits)))))
+
+module _ (text vars : List ℕ) (n a e : ℕ) (path : List ℕ) {l : Led} (told : l ≡ leadOf false (span text a e) path) (fits : l .fits ≡ true) where
+  pub behind-matched : (table : List ℕ) {m : Matched} →
+      m ≡ matchedAll (l .slash) (patternBy text vars n table (span text (a + l .len) e)) (take (length path - l .len) (drop (l .len) path)) →
+      m ≡ matchedBehind text vars n table (span text a e) path
+  unfolding matchedBehind
+  behind-matched table h =
+      rw (← lead-slash false (span text a e) path l told fits, ← lead-len false (span text a e) path l told fits, drop-span text a e, ← rest path (l .len)) h
+
+module _ {text vars : List ℕ} {n : ℕ} {table : List ℕ} (known : Known text vars n table) (pattern path : List ℕ)
+    (good : patternFault (env text vars n) pattern ≡ 0) where
+  same-behind : beginning (front pattern) path ≡ true → matchedBehind text vars n table pattern path ≡
+      record { some = matchesSome (env text vars n) pattern path; exact = matchesExactly (env text vars n) pattern path }
+  unfolding matchedBehind
+  same-behind h =
+      let vs = env text vars n in
+      let f = front pattern in
+      same-all known (slashAfter false f) (drop (length f) pattern) (drop (length f) path) (behind-within vs pattern false (good-within vs pattern good))
+      ∙ sym (rw (some-after vs pattern path, exact-after vs pattern path, behind false vs pattern path, behind-exactly false vs pattern path, h))
 
   -- a path that does not begin with the front is matched by no expansion
   pub matched-known : matchedIn text vars n table pattern path ≡ matchedOf text (env text vars n) pattern path
   unfolding matchedIn matchedOf
   matched-known =
-      rw (eq-eqb (patternFault (env text vars n) pattern) 0 good, same-all)
-      (go (textFits text) (pathFits path) (beginning (front pattern) path) _
+      rw (eq-eqb (patternFault (env text vars n) pattern) 0 good)
+      (go (textFits text) (pathFits path) (beginning (front pattern) path) same-behind
       (λ e. rw (front-none (env text vars n) pattern path e, front-none-exactly (env text vars n) pattern path e)))
     where
-      go : (t p f : Bool) (m : Matched) → (f ≡ false → m ≡ noMatch) → (if t && p && f then m else noMatch) ≡ (if t && p && true then m else noMatch)
-      go false p f m e = refl
-      go true false f m e = refl
-      go true true true m e = refl
-      go true true false m e = sym (e refl)
+      go : (t p f : Bool) {x m : Matched} → (f ≡ true → x ≡ m) → (f ≡ false → m ≡ noMatch) → (if t && p && f then x else noMatch) ≡ (if t && p && true then m else noMatch)
+      go false p f y e = refl
+      go true false f y e = refl
+      go true true true y e = y refl
+      go true true false y e = sym (e refl)
+
+-- ---- judged after it was matched
+
+-- where nothing matches, nothing does exactly
+none-exactly : (xs : List (List Piece)) (path : List ℕ) → some (λ x. matches (joined x) path) xs ≡ false →
+    some (λ x. every isLiteral x && matches (joined x) path) xs ≡ false
+unfolding some
+none-exactly [] path e = refl
+none-exactly (x ∷ xs) path e = go (matches (joined x) path) (every isLiteral x) e (none-exactly xs path)
+  where
+    go : (m l : Bool) {r s : Bool} → (m || r) ≡ false → (r ≡ false → s ≡ false) → ((l && m) || s) ≡ false
+    go true l q f = absurd (let z : _≡_ {A = ℕ} 0 1 = cc in omega arith)
+    go false true q f = f q
+    go false false q f = f q
+
+-- a pattern of which nothing matches
+pub unmatched : (text : List ℕ) (vs : List Variable) (pattern path : List ℕ) → matchesSome vs pattern path ≡ false → noMatch ≡ matchedOf text vs pattern path
+unfolding matchesSome matchesExactly matchedOf
+unmatched text vs pattern path e = rw (e, none-exactly (expansions vs pattern) path e) (go (textFits text && pathFits path && eqb (patternFault vs pattern) 0))
+  where
+    go : (t : Bool) → noMatch ≡ (if t then noMatch else noMatch)
+    go true = refl
+    go false = refl
+
+-- one with a fault
+pub faulty : (text : List ℕ) (vs : List Variable) (pattern path : List ℕ) → (patternFault vs pattern ≡ 0 → ⊥) → noMatch ≡ matchedOf text vs pattern path
+unfolding matchedOf
+faulty text vs pattern path e = rw (ne-eqb (patternFault vs pattern) 0 e) (go (textFits text) (pathFits path))
+  where
+    go : (t p : Bool) → noMatch ≡ (if t && p && false then record { some = matchesSome vs pattern path; exact = matchesExactly vs pattern path } else noMatch)
+    go true true = refl
+    go true false = refl
+    go false p = refl
+
+-- one whose first choice does not begin the path behind the front
+pub unopened : (text vars : List ℕ) (n a e : ℕ) (path : List ℕ) {l : Led} → l ≡ leadOf false (span text a e) path → l .fits ≡ true → {o : Bool} →
+    o ≡ opens (env text vars n) (l .slash) (span text (a + l .len) e) (take (length path - l .len) (drop (l .len) path)) → o ≡ false →
+    noMatch ≡ matchedOf text (env text vars n) (span text a e) path
+unopened text vars n a e path {l} told fits q o =
+    let vs = env text vars n in
+    let s = span text a e in
+    let h : opens vs (l .slash) (drop (l .len) s) (drop (l .len) path) ≡ false = rw (drop-span text a e, ← rest path (l .len)) (sym q ∙ o) in
+    unmatched text vs s path
+    (some-after vs s path ∙ rest-after false s path l told vs fits ∙ opens-none vs (l .slash) (drop (l .len) s) (drop (l .len) path) h)
+
+-- text or path too long
+pub unfit : (text : List ℕ) (vs : List Variable) (pattern path : List ℕ) → (textFits text && pathFits path) ≡ false → noMatch ≡ matchedOf text vs pattern path
+unfolding matchedOf
+unfit text vs pattern path e = go (textFits text) (pathFits path) e
+  where
+    go : (t p : Bool) → (t && p) ≡ false →
+        noMatch ≡ (if t && p && eqb (patternFault vs pattern) 0 then record { some = matchesSome vs pattern path; exact = matchesExactly vs pattern path } else noMatch)
+    go true true q = absurd (let z : _≡_ {A = ℕ} 0 1 = cc in omega arith)
+    go true false q = refl
+    go false p q = refl
+
+module _ {text vars : List ℕ} {n : ℕ} {table : List ℕ} (known : Known text vars n table) (pattern path : List ℕ)
+    (begins : beginning (front pattern) path ≡ true) {m : Matched} (e : m ≡ matchedBehind text vars n table pattern path) where
+  -- nothing has matched
+  pub judged-none : m .some ≡ false → noMatch ≡ matchedOf text (env text vars n) pattern path
+  judged-none q = go (eqb (patternFault (env text vars n) pattern) 0) refl
+    where
+      go : (b : Bool) → eqb (patternFault (env text vars n) pattern) 0 ≡ b → noMatch ≡ matchedOf text (env text vars n) pattern path
+      go true b =
+          unmatched text (env text vars n) pattern path
+          (sym (ap (λ (z : Matched). z .some) (e ∙ same-behind known pattern path (eqb-true (patternFault (env text vars n) pattern) 0 b) begins)) ∙ q)
+      go false b = faulty text (env text vars n) pattern path (eqb-false (patternFault (env text vars n) pattern) 0 b)
+
+  module _ {f : ℕ} (j : f ≡ faultBy text vars n table pattern) where
+    fault : f ≡ patternFault (env text vars n) pattern
+    fault = j ∙ ap (λ (g : List ℕ → ℕ). g pattern) (faults-known known)
+
+    pub judged-good : (textFits text && pathFits path) ≡ true → f ≡ 0 → m ≡ matchedOf text (env text vars n) pattern path
+    unfolding matchedOf
+    judged-good fits z =
+        let good : patternFault (env text vars n) pattern ≡ 0 = sym fault ∙ z in
+        rw (and-left (textFits text) (pathFits path) fits, and-right (textFits text) (pathFits path) fits, eq-eqb (patternFault (env text vars n) pattern) 0 good)
+        (e ∙ same-behind known pattern path good begins)
+
+    pub judged-bad : (f ≡ 0 → ⊥) → noMatch ≡ matchedOf text (env text vars n) pattern path
+    judged-bad z = faulty text (env text vars n) pattern path (λ good. z (fault ∙ good))
+
+-- ---- under the variables that bear on it
+
+pub under-used : (text vars : List ℕ) (n : ℕ) (pattern path : List ℕ) {k : ℕ} {m : Matched} → k ≡ (if holds (code "@") pattern then n else 0) →
+    m ≡ matchedOf text (env text vars k) pattern path → m ≡ matchedOf text (env text vars n) pattern path
+unfolding matchedOf matchesSome matchesExactly
+under-used text vars n pattern path {k} {m} e h = go (holds (code "@") pattern) refl e
+  where
+    go : (t : Bool) → holds (code "@") pattern ≡ t → k ≡ (if t then n else 0) → m ≡ matchedOf text (env text vars n) pattern path
+    go true q z = rw (← z) h
+    go false q z =
+        h ∙ rw (same-fault (env text vars k) (env text vars n) pattern q, same-expansions (env text vars k) (env text vars n) pattern q)

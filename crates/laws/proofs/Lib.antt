@@ -3,6 +3,7 @@ pub mod Joining
 pub mod Fixed
 pub mod Names
 pub mod Texts
+pub mod Keeping
 pub mod Whole
 pub mod Files
 pub mod Answers

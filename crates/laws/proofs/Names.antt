@@ -18,7 +18,7 @@ use Rattle.pattern.specs.Faults.{patternFault}
 use Rattle.rule.specs.Rules.{Rule, rulesAt}
 use Rattle.preamble.specs.Preamble.{preambleAt}
 use Rattle.heads.specs.Heads.{Head, nameAt, openAt, headAt}
-use Rattle.profile.specs.Profiles.{Profile, File, OneProfile, ends, profileAt, unlessEnd, profilesAt, fileOf}
+use Rattle.profile.specs.Profiles.{Profile, File, OneProfile, ends, profileAt, unlessEnd, profilesAt, fileOf, fileWithin}
 use Rattle.laws.specs.Asked.{named, rulesOf}
 use Rattle.laws.proofs.Steps.{never, inner, step, unless, passed}
 
@@ -117,7 +117,7 @@ profiles-once (suc left) rulesLeft used vs s at ps e =
 
 -- a profile of an accepted file is the one of its name
 pub only-one : (s : List ℕ) (f : File) → fileOf s ≡ Read f → (p : Profile) → List·Memᴰ p (f .profiles) → rulesOf (p .name) (f .profiles) ≡ p .rules
-unfolding fileOf
+unfolding fileOf fileWithin
 only-one s f e p m =
     let a = step (preambleAt 512 [] s 0) _ f e in
     let b = step (profilesAt 32 512 [] (a .0 .variables) s (a .0 .next)) _ f (a .2) in

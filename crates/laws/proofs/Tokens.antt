@@ -16,7 +16,7 @@ use Rattle.pattern.specs.Faults.{patternFault}
 use Rattle.rule.specs.Rules.{Rule, Qualifiers, RuleRead, qualifiersAt, patternAt, ruleFrom, bodyAt, Step, More, Close, ruleAt, endAt, RulesRead, noRules, stepThen, rulesAt}
 use Rattle.preamble.specs.Preamble.{Preamble, preambleAt}
 use Rattle.heads.specs.Heads.{Head, nameAt, openAt, headAt}
-use Rattle.profile.specs.Profiles.{Profile, File, OneProfile, oneProfile, ends, profileAt, unlessEnd, profilesAt, fileOf}
+use Rattle.profile.specs.Profiles.{Profile, File, OneProfile, oneProfile, ends, profileAt, unlessEnd, profilesAt, fileOf, fileWithin}
 use Rattle.findings.specs.Findings.{allows, denies}
 use Rattle.decide.specs.Decide.{answerOf}
 use Rattle.laws.specs.Orders.{Accepted, SameButRules, NoMore, NoLess}
@@ -179,7 +179,7 @@ profiles-said (suc left) rulesLeft used vs s at ps l e =
 
 -- an accepted text means what its tokens say
 pub file-said : (s : List ℕ) (f : File) → fileOf s ≡ Read f → (v : WrittenFile) × (writtenOf s ≡ Read v) × (fileBy v ≡ f)
-unfolding fileOf writtenOf
+unfolding fileOf fileWithin writtenOf
 file-said s f e =
     let a = step (preambleAt 512 [] s 0) _ f e in
     let b = step (profilesAt 32 512 [] (a .0 .variables) s (a .0 .next)) _ f (a .2) in

@@ -1,5 +1,5 @@
 -- Every rule of an accepted text is whole.
-use Prim.Native.Nat.{ℕ, zero, suc, _+_, _-_}
+use Prim.Native.Nat.{ℕ, suc}
 use Prim.Native.Char.{code}
 use native.Mathlib.Omega.{arith}
 use mathlib.Core.Path.{_≡_, refl, sym, ap, ap₂, _∙_, subst}
@@ -20,20 +20,17 @@ use Rattle.modes.specs.declared.Transition.the-variants.{Absent, ByMode}
 use Rattle.perms_word.specs.Words.{letters, permLetter, beforeLetters, modePart, carried, named, withMode, wordOf}
 use Rattle.perms_word.specs.declared.Word.{Word}
 use Rattle.perms_word.specs.declared.Word.the-variants.{Carries, Bad}
-use Rattle.text.specs.Reading.{Reading, Read, Refused, _>>=_, refuseIf, judged}
-use Rattle.blanks.specs.Blanks.{standing, standsAt}
-use Rattle.tokens.specs.Tokens.{Token, comma, noStop, isWord, tokenAt, wanted}
-use Rattle.pattern.specs.Expansions.{Variable}
+use Rattle.text.specs.Reading.{refuseIf, judged}
+use Rattle.tokens.specs.Tokens.{Token, comma, isWord, tokenAt, wanted}
 use Rattle.pattern.specs.Faults.{patternFault}
 use Rattle.rule_tail.specs.Tails.{Permissions, carriedBy, permsAt, targetAt, commaAt}
-use Rattle.rule.specs.Rules.{Qualifiers, qualifiersAt, patternAt, RuleRead, ruleEnd, ruleFrom, bodyAt, Step, More, Close, ruleAt, endAt, RulesRead, stepThen, rulesAt}
+use Rattle.rule.specs.Rules.{Qualifiers, RuleRead, ruleEnd, ruleFrom}
 use Rattle.preamble.specs.Preamble.{preambleAt}
-use Rattle.heads.specs.Heads.{headAt}
-use Rattle.profile.specs.Profiles.{Profile, File, OneProfile, ends, profileAt, unlessEnd, profilesAt, fileOf}
+use Rattle.profile.specs.Profiles.{File, fileOf, fileWithin}
 use Rattle.answer.specs.Answers.{x}
 use Rattle.laws.specs.Orders.{Accepted}
 use Rattle.laws.specs.Whole.{fits, whole, wholeFile}
-use Rattle.laws.proofs.Steps.{never, inner}
+use Rattle.laws.proofs.Keeping.{Keeps, kept, refused, after, next, read-keeps, profiles-keep}
 
 -- ---- the letter x
 
@@ -127,19 +124,7 @@ word-fits deny (b ∷ w) = go (holds (code "w") (b ∷ w) && holds (code "a") (b
     go true = tt
     go false = mode-fits deny (perms (carried (b ∷ w))) (modePart (b ∷ w)) (carries-x (b ∷ w) ∙ mode-x (b ∷ w))
 
--- ---- what is read, if it is, keeps a law
-
-data Keeps {A : Type 0} (P : A → Type 0) : Reading A → Type 0 where
-  good : {a : A} → P a → Keeps P (Read a)
-  refused : {n p : ℕ} → Keeps P (Refused n p)
-
-after : {A B : Type 0} {P : A → Type 0} {Q : B → Type 0} (f : A → Reading B) {r : Reading A} → Keeps P r → ((a : A) → P a → Keeps Q (f a)) → Keeps Q (r >>= f)
-after f (good {a = a} k) h = h a k
-after f refused h = refused
-
-next : {A B : Type 0} {Q : B → Type 0} (f : A → Reading B) (r : Reading A) → ((a : A) → Keeps Q (f a)) → Keeps Q (r >>= f)
-next f (Read a) h = h a
-next f (Refused n p) h = refused
+-- ---- rules and files
 
 perms-fit : (deny : Bool) (s : List ℕ) (at : ℕ) → Keeps (λ (p : Permissions). fits deny (p .perms) (p .transition) ≡ true) (permsAt deny s at)
 unfolding permsAt
@@ -148,7 +133,7 @@ perms-fit deny s at =
     next _ (refuseIf (t .quoted || isWord t (bytes ",")) 4 (t .start)) λ u. go t (wordOf deny (t .content)) (word-fits deny (t .content))
   where
     go : (t : Token) (w : Word) → Fits deny w → Keeps (λ (p : Permissions). fits deny (p .perms) (p .transition) ≡ true) (carriedBy t w)
-    go t (Carries p tr) h = good h
+    go t (Carries p tr) h = kept h
     go t Bad h = refused
 
 rule-whole : (fault : List ℕ → ℕ) (s : List ℕ) (q : Qualifiers) (t : Token) → Keeps (λ (r : RuleRead). whole (r .rule) ≡ true) (ruleFrom fault s q t)
@@ -157,68 +142,13 @@ rule-whole fault s q t =
     next _ (judged (fault (t .content)) (t .start)) λ u.
     after _ (perms-fit (q .deny) s (t .next)) λ p h.
     next _ (targetAt (p .transition) s (p .next)) λ to.
-    next _ (commaAt s (to .next)) λ n. good h
-
-abbrev WholeStep : Step → Type 0
-WholeStep (More r) = whole (r .rule) ≡ true
-WholeStep (Close n) = Unit {0}
-
-step-whole : (fault : List ℕ → ℕ) (s : List ℕ) (at : ℕ) → Keeps WholeStep (ruleAt fault s at)
-unfolding ruleAt bodyAt
-step-whole fault s at = go (standsAt (bytes "}") s at)
-  where
-    go : (b : Bool) → Keeps WholeStep
-        (elim b as (λ _. Reading Step) [
-          | true ↦ Read (Close (standing s at + 1))
-          | false ↦ patternAt s (qualifiersAt s at) >>= λ t. ruleFrom fault s (qualifiersAt s at) t >>= λ r. Read (More r)
-        ])
-    go true = good tt
-    go false = next _ (patternAt s (qualifiersAt s at)) λ t. after _ (rule-whole fault s (qualifiersAt s at) t) λ r h. good h
-
-rules-whole : (left : ℕ) (fault : List ℕ → ℕ) (s : List ℕ) (at : ℕ) → Keeps (λ (r : RulesRead). every whole (r .rules) ≡ true) (rulesAt left fault s at)
-unfolding rulesAt every
-rules-whole zero fault s at = next _ (endAt s at) λ n. good refl
-rules-whole (suc left) fault s at = after _ (step-whole fault s at) λ x h. go x h (rules-whole left fault s)
-  where
-    go : (x : Step) → WholeStep x → ((next : ℕ) → Keeps (λ (r : RulesRead). every whole (r .rules) ≡ true) (rulesAt left fault s next))
-        → Keeps (λ (r : RulesRead). every whole (r .rules) ≡ true) (stepThen (λ r. rulesAt left fault s (r .next)) x)
-    go (More r) h k = after _ (k (r .next)) λ more g. good (ap₂ _&&_ h g)
-    go (Close n) h k = good refl
-
--- ---- profiles and files
-
-abbrev wholeProfiles : List Profile → Type 0
-wholeProfiles ps = every (λ (p : Profile). every whole (p .rules)) ps ≡ true
-
-profile-whole : (full : Bool) (rulesLeft : ℕ) (used : List (List ℕ)) (vs : List Variable) (s : List ℕ) (at : ℕ)
-    → Keeps (λ (x : OneProfile). every whole (x .profile .rules) ≡ true) (profileAt full rulesLeft used vs s at)
-unfolding profileAt
-profile-whole full rulesLeft used vs s at =
-    next _ (headAt full used s at) λ h. after _ (rules-whole rulesLeft (patternFault vs) s (h .next)) λ rs g. good g
-
-end-whole : (s : List ℕ) (at : ℕ) (more : Reading (List Profile)) → Keeps wholeProfiles more → Keeps wholeProfiles (unlessEnd s at more)
-unfolding unlessEnd every
-end-whole s at more k = go (ends (tokenAt noStop s at))
-  where
-    go : (b : Bool) → Keeps wholeProfiles (elim b as (λ _. Reading (List Profile)) [ true ↦ Read [] | false ↦ more ])
-    go true = good refl
-    go false = k
-
-profiles-whole : (left rulesLeft : ℕ) (used : List (List ℕ)) (vs : List Variable) (s : List ℕ) (at : ℕ) → Keeps wholeProfiles (profilesAt left rulesLeft used vs s at)
-unfolding profilesAt every
-profiles-whole zero rulesLeft used vs s at = end-whole s at _ (next _ (profileAt true rulesLeft used vs s at) λ x. refused)
-profiles-whole (suc left) rulesLeft used vs s at =
-    end-whole s at _
-    (after _ (profile-whole false rulesLeft used vs s at) λ x g.
-    after _ (profiles-whole left (rulesLeft - x .count) (x .profile .name ∷ used) vs s (x .next)) λ more e. good (ap₂ _&&_ g e))
+    next _ (commaAt s (to .next)) λ n. kept h
 
 file-whole : (s : List ℕ) → Keeps (λ (f : File). wholeFile f ≡ true) (fileOf s)
-unfolding fileOf
-file-whole s = next _ (preambleAt 512 [] s 0) λ p. after _ (profiles-whole 32 512 [] (p .variables) s (p .next)) λ ps h. good h
-
-read-keeps : {A : Type 0} {P : A → Type 0} {r : Reading A} (a : A) → Keeps P r → r ≡ Read a → P a
-read-keeps {A} {P} a (good h) e = subst P (sym (inner e)) h
-read-keeps a refused e = absurd (never e)
+unfolding fileOf fileWithin
+file-whole s =
+    next _ (preambleAt 512 [] s 0) λ p.
+    after _ (profiles-keep whole (p .variables) s (rule-whole (patternFault (p .variables)) s) 32 512 [] (p .next)) λ ps h. kept h
 
 -- every rule of an accepted text is whole
 pub accepted-whole : (text : List ℕ) (f : File) → Accepted text f → wholeFile f ≡ true

@@ -39,13 +39,14 @@ module _ (codes path : List ℕ) (i : ℕ) where
   unfolding shared
   shared-end h = rw (drop-of-length-le codes h)
 
-pub shared-le : (codes path : List ℕ) → shared codes path ≤ length path
+pub shared-le : (codes path : List ℕ) → (shared codes path ≤ length codes) × (shared codes path ≤ length path)
 unfolding shared
 shared-le [] s = omega arith
 shared-le (c ∷ cs) [] = omega arith
 shared-le (c ∷ cs) (b ∷ s) = go (eqb c b) (shared-le cs s)
   where
-    go : (x : Bool) → shared cs s ≤ length s → (elim x as (λ _. ℕ) [ true ↦ suc (shared cs s) | false ↦ 0 ]) ≤ suc (length s)
+    go : (x : Bool) → (shared cs s ≤ length cs) × (shared cs s ≤ length s) →
+        ((elim x as (λ _. ℕ) [ true ↦ suc (shared cs s) | false ↦ 0 ]) ≤ suc (length cs)) × ((elim x as (λ _. ℕ) [ true ↦ suc (shared cs s) | false ↦ 0 ]) ≤ suc (length s))
     go true h = omega arith
     go false h = omega arith
 
@@ -58,7 +59,7 @@ ends s k h = go (drop k s) (length-drop k s)
 
 -- behind what is shared: what is left must match; a literal there does not; where no piece is left the path must end
 module _ (text : List ℕ) where
-  abbrev whole : (codes path : List ℕ) → Bool
+  abbrev pub whole : (codes path : List ℕ) → Bool
   whole codes path = matches (map (decode text) codes) path
 
   literal : (c b : ℕ) (cs s : List ℕ) → c < 256 → whole (c ∷ cs) (b ∷ s) ≡ (eqb b c && whole cs s)
@@ -96,4 +97,4 @@ module _ (text : List ℕ) where
   pub shared-done : (codes path : List ℕ) → ((k : ℕ) → getD path k 0 < 256) → length codes ≤ shared codes path → whole codes path ≡ eqb (shared codes path) (length path)
   unfolding matches
   shared-done codes path f h =
-      shared-left codes path f ∙ rw (drop-of-length-le codes h) (ends path (shared codes path) (shared-le codes path))
+      shared-left codes path f ∙ rw (drop-of-length-le codes h) (ends path (shared codes path) (shared-le codes path .1))

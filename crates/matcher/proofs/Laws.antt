@@ -1,14 +1,14 @@
 -- The laws of `matches`: what one piece in front does, one piece more at the end, and what one step of the walk does.
 use mathlib.Core.Path.{_≡_, refl, sym, ap, ap₂, _∙_, subst}
 use mathlib.Core.Logic.{⊎-elim}
-use mathlib.Core.Bool.{Bool, true, false, _&&_, _||_, false≢true, and-true, and-false, or-false, and-assoc, or-assoc, and-or-distrib-left, and-or-distrib-right}
-use mathlib.Core.List.{List, [], _∷_, _++_, append-assoc, map, map-append}
+use mathlib.Core.Bool.{Bool, true, false, _&&_, _||_, false≢true, and-true, and-false, and-comm, or-false, and-assoc, or-assoc, and-or-distrib-left, and-or-distrib-right}
+use mathlib.Core.List.{List, [], _∷_, _++_, append-assoc, map, map-append, reverse, reverse-cons, reverse-append, reverse-reverse}
 use Prim.Native.Nat.{ℕ, zero, suc, _+_, _≤_, _<_}
 use native.Mathlib.Nat.{eq-or-lt-of-le, le-refl, le-of-suc-le-suc, not-suc-le-zero, le-suc, le-trans}
 use native.Mathlib.Omega.{arith}
 use native.Mathlib.Numerals.{add-one}
 use lib.ListN.{set, replicate, getD-replicate, length, take, drop, getD, length-append, length-take, length-drop, take-append-drop}
-use lib.Seq.{take-append-seam, drop-append-seam, take-suc, drop-append-le, take-take, length-take-le, take-length, drop-length, slice-empty, getD-set-same, getD-set-other}
+use lib.Seq.{take-append-seam, drop-append-seam, take-suc, drop-append-le, take-take, length-take-le, take-length, drop-length, slice-empty, getD-set-same, getD-set-other, set-set, set-getD}
 use Rattle.scan.specs.Bytes.{every, isEmpty}
 use Rattle.scan.proofs.Bools.{iff, and-left, and-right, or-cases, or-right}
 use Rattle.pattern.specs.Pieces.{Piece, Byte, One, Star, StarStar, Class}
@@ -222,6 +222,40 @@ matches-snoc ps p s =
     ∙ some-cong (λ k. matches ps (take k s) && matches (p ∷ []) (drop k s)) (λ k. matches ps (take k s) && accepts p (drop k s)) (length s)
     (λ k h. rw (matches-only p (drop k s)))
 
+-- ---- pieces and path read from their ends
+
+every-reverse : (t : ℕ → Bool) (s : List ℕ) → every t (reverse s) ≡ every t s
+unfolding every
+every-reverse t [] = refl
+every-reverse t (b ∷ s) = rw (reverse-cons b s) (every-snoc t (reverse s) b ∙ rw (every-reverse t s) (and-comm (every t s) (t b)))
+
+single-reverse : (t : ℕ → Bool) (s : List ℕ) → single t s ≡ true → single t (reverse s) ≡ true
+single-reverse t [] e = e
+single-reverse t (b ∷ []) e = e
+single-reverse t (b ∷ (c ∷ s)) e = absurd (false≢true (sym (and-false (t b)) ∙ e))
+
+accepts-reverse : (p : Piece) (s : List ℕ) → accepts p s ≡ true → accepts p (reverse s) ≡ true
+accepts-reverse p s e = go (repeatsOf p) refl
+  where
+    go : (r : Bool) → repeatsOf p ≡ r → accepts p (reverse s) ≡ true
+    go true q = accepts-many p q (reverse s) ∙ every-reverse (takesOf p) s ∙ sym (accepts-many p q s) ∙ e
+    go false q = accepts-one p q (reverse s) ∙ single-reverse (takesOf p) s (sym (accepts-one p q s) ∙ e)
+
+reverse-in : (ps : List Piece) (s : List ℕ) → matches ps s ≡ true → matches (reverse ps) (reverse s) ≡ true
+unfolding matches
+reverse-in [] s m = rw (empty-nil s m)
+reverse-in (p ∷ ps) s m =
+    let h = cut-out (accepts p) (matches ps) s m in
+    rw (h .whole, reverse-append, reverse-cons p ps)
+    (append-in (reverse ps) (p ∷ []) (reverse (h .right)) (reverse (h .left)) (reverse-in ps (h .right) (h .second))
+    (matches-only p (reverse (h .left)) ∙ accepts-reverse p (h .left) (h .first)))
+
+pub matches-reverse : (ps : List Piece) (s : List ℕ) → matches (reverse ps) (reverse s) ≡ matches ps s
+matches-reverse ps s =
+    iff (matches (reverse ps) (reverse s)) (matches ps s)
+    (λ m. rw (reverse-reverse ps, reverse-reverse s) at (reverse-in (reverse ps) (reverse s) m))
+    (reverse-in ps s)
+
 -- the marks after a piece are right where those before it were
 pub after-snoc : (ps : List Piece) (p : Piece) (s : List ℕ) (m : List Bool)
     → ((j : ℕ) → j ≤ length s → getD m j false ≡ matches ps (take j s))
@@ -283,11 +317,15 @@ module _ (p : Piece) (s : List ℕ) (m : List Bool) (i : ℕ) (l : i < length s)
       go false e = suc-one e
 
   -- the mark that a turn of the loop of `step` finds
-  pub mark-right : (next : List Bool) (many ok v : Bool)
-      → many ≡ repeatsOf p → ok ≡ takesOf p (getD s i 0) → getD next i false ≡ after p s m i
-      → v ≡ markOf many (getD m i false) (getD m (i + 1) false) (getD next i false) ok
+  pub mark-right : (next : List Bool) (many before here ok v : Bool)
+      → many ≡ repeatsOf p → before ≡ getD m i false → here ≡ getD m (i + 1) false → ok ≡ takesOf p (getD s i 0) → getD next i false ≡ after p s m i
+      → v ≡ markOf many before here (getD next i false) ok
       → v ≡ after p s m (i + 1)
-  mark-right next many ok v r t h e = e ∙ rw (r, t, h, add-one) (sym after-suc)
+  mark-right next many before here ok v r b n t h e = e ∙ rw (r, b, n, t, h, add-one) (sym after-suc)
+
+-- the marks before a piece, found again where the first of the new ones is set
+pub marks-before : (m : List Bool) (v : Bool) → set (set m 0 v) 0 (getD m 0 false) ≡ m
+marks-before m v = set-set m 0 v (getD m 0 false) ∙ set-getD m 0 false
 
 -- one mark more is right
 pub more-marks : (f : ℕ → Bool) (next : List Bool) (i : ℕ) (v : Bool)

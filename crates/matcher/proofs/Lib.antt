@@ -2,3 +2,4 @@ pub mod Laws
 pub mod Alive
 pub mod Codes
 pub mod Front
+pub mod Back

@@ -1,7 +1,7 @@
 // Paths against patterns.
 ghost use mathlib.Core.Path.{_≡_};
 ghost use mathlib.Core.Bool.{false, _&&_};
-ghost use mathlib.Core.List.{List, map};
+ghost use mathlib.Core.List.{List, map, reverse};
 ghost use Prim.Native.Nat.{ℕ, _+_, _-_, _≤_};
 ghost use lib.ListN.{length, getD, take, drop};
 ghost use Rattle.scan.specs.Bytes.{run};
@@ -94,23 +94,24 @@ fn mark(many: bool, before: bool, here: bool, carried: bool, ok: bool) -> bool
     }
 }
 
-// The places alive after a piece.
+// The places alive after a piece. The new marks begin as a copy: a place that is not reached yet has its mark from before.
 fn step(marks: [bool; 4096], text: &[u8], code: u32, path: &[u8]) -> Marks
     requires { ⌜ length (now path) ≤ 4095 ⌝ }
     ensures { λ r. ⌜ ((i : ℕ) → i ≤ length (now (path .entry)) → getD (r .places) i false ≡ after (decode (now (text .entry)) code) (now (path .entry)) marks i) ⌝ }
     ensures { λ r. ⌜ r .alive ≡ someUpTo (after (decode (now (text .entry)) code) (now (path .entry)) marks) (length (now (path .entry))) ⌝ }
 {
     let many = repeats(code);
-    let mut next = [false; 4096];
-    let mut alive = mark(many, false, marks[0], false, false);
+    let mut next = marks;
+    let mut before = marks[0];
+    let mut alive = mark(many, false, before, false, false);
     next[0] = alive;
     let mut i = 0;
     while i < path.len() {
         let ok = takes(text, code, path[i]);
-        let before = marks[i];
-        let here = marks[i + 1];
+        let here = next[i + 1];
         let m = mark(many, before, here, next[i], ok);
         next[i + 1] = m;
+        before = here;
         alive = alive | m;
         i += 1;
     }
@@ -158,7 +159,42 @@ fn shared_front(codes: &[u32], path: &[u8]) -> usize
     i
 }
 
-// Whether all the pieces match the path: those behind the literals that it begins with by marks.
+// How many pieces from the end are literals with the byte of the path at their place from its end.
+fn shared_back(codes: &[u32], path: &[u8]) -> usize
+    ensures { λ r. ⌜ r ≡ shared (reverse (now (codes .entry))) (reverse (now (path .entry))) ⌝ }
+{
+    let mut i = 0;
+    while i < codes.len() {
+        if path.len() <= i {
+            return i;
+        }
+        let k = codes.len() - 1 - i;
+        let m = path.len() - 1 - i;
+        if codes[k] != path[m] as u32 {
+            return i;
+        }
+        i += 1;
+    }
+    i
+}
+
+// Whether all the pieces match the path: those before the literals that it ends with by marks.
+fn walk_back(text: &[u8], codes: &[u32], path: &[u8]) -> bool
+    requires { ⌜ length (now path) ≤ 4095 ⌝ }
+    ensures { λ r. ⌜ r ≡ matches (map (decode (now (text .entry))) (now (codes .entry))) (now (path .entry)) ⌝ }
+{
+    let n = shared_back(codes, path);
+    let k = codes.len() - n;
+    let m = path.len() - n;
+    if 0 < k {
+        if codes[k - 1] < ONE {
+            return false;
+        }
+    }
+    walk_marks(text, &codes[..k], &path[..m])
+}
+
+// Whether all the pieces match the path: the literals that it begins with are compared, and what is left walked from the back.
 fn walk(text: &[u8], codes: &[u32], path: &[u8]) -> bool
     requires { ⌜ length (now path) ≤ 4095 ⌝ }
     ensures { λ r. ⌜ r ≡ matches (map (decode (now (text .entry))) (now (codes .entry))) (now (path .entry)) ⌝ }
@@ -168,7 +204,7 @@ fn walk(text: &[u8], codes: &[u32], path: &[u8]) -> bool
         if codes[n] < ONE {
             return false;
         }
-        return walk_marks(text, &codes[n..], &path[n..]);
+        return walk_back(text, &codes[n..], &path[n..]);
     }
     n == path.len()
 }

@@ -9,8 +9,8 @@ use lib.Dec.{eqb, ltb}
 use borrow.Author.Tests.{ltb-true, ltb-false, eqb-true, eqb-false, lt-ltb, le-ltb, ne-eqb}
 use Rattle.scan.specs.Bytes.{if_then_else_}
 use Rattle.pattern.specs.Pieces.{Piece, Byte, One, Star, StarStar, Class}
-use Rattle.pattern.specs.Expansions.{isSlash, joinedAfter, joined}
-use Rattle.pattern.specs.Codes.{bracketed, decode, joinedCodesAfter, joinedCodes}
+use Rattle.pattern.specs.Expansions.{isSlash, joinedAfter}
+use Rattle.pattern.specs.Codes.{bracketed, decode, joinedCodesAfter}
 
 module _ (text : List ℕ) where
   pub decode-byte : (c : ℕ) → c < 256 → decode text c ≡ Byte c
@@ -74,19 +74,16 @@ slash-decode : (text : List ℕ) (c : ℕ) → isSlash (decode text c) ≡ eqb c
 slash-decode text =
     test-decode isSlash (λ c. eqb c (code "/")) text (λ c h. refl) refl refl refl (λ c k h. sym (ne-eqb c (code "/") (λ q. omega arith)))
 
-after-decode : (text : List ℕ) (slash : Bool) (cs : List ℕ) → map (decode text) (joinedCodesAfter slash cs) ≡ joinedAfter slash (map (decode text) cs)
+-- joining slashes commutes with reading codes back
+pub joined-decode : (text : List ℕ) (slash : Bool) (cs : List ℕ) → map (decode text) (joinedCodesAfter slash cs) ≡ joinedAfter slash (map (decode text) cs)
 unfolding joinedCodesAfter joinedAfter
-after-decode text slash [] = refl
-after-decode text slash (c ∷ cs) =
+joined-decode text slash [] = refl
+joined-decode text slash (c ∷ cs) =
     rw (slash-decode text c)
     (go (slash && eqb c (code "/")) (joinedCodesAfter true cs) (joinedCodesAfter (eqb c (code "/")) cs)
-    (after-decode text true cs) (after-decode text (eqb c (code "/")) cs))
+    (joined-decode text true cs) (joined-decode text (eqb c (code "/")) cs))
   where
     go : (t : Bool) (a b : List ℕ) {x y : List Piece} → map (decode text) a ≡ x → map (decode text) b ≡ y
         → map (decode text) (if t then a else c ∷ b) ≡ (if t then x else decode text c ∷ y)
     go true a b p q = p
     go false a b p q = ap (λ (l : List Piece). decode text c ∷ l) q
-
--- joining slashes commutes with reading codes back
-pub joined-decode : (text cs : List ℕ) → map (decode text) (joinedCodes cs) ≡ joined (map (decode text) cs)
-joined-decode text cs = after-decode text false cs

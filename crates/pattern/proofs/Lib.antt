@@ -1,3 +1,4 @@
 pub mod Codes
 pub mod Laws
 pub mod Literals
+pub mod Names

@@ -2,7 +2,7 @@
 use Prim.Native.Nat.{ℕ, _-_}
 use Prim.Native.Char.{code}
 use mathlib.Core.List.{List, [], _∷_}
-use mathlib.Core.Bool.{Bool, true, false, not, _&&_}
+use mathlib.Core.Bool.{Bool, true, not, _&&_}
 use lib.ListN.{take, drop}
 use lib.Dec.{eqb, ltb}
 use Rattle.scan.specs.Bytes.{run, if_then_else_}
@@ -29,6 +29,3 @@ unfoldable pub joinedCodesAfter : Bool → List ℕ → List ℕ
 joinedCodesAfter slash [] = []
 joinedCodesAfter slash (c ∷ cs) =
     if slash && eqb c (code "/") then joinedCodesAfter true cs else c ∷ joinedCodesAfter (eqb c (code "/")) cs
-
-abbrev pub joinedCodes : List ℕ → List ℕ
-joinedCodes cs = joinedCodesAfter false cs

@@ -19,10 +19,11 @@ use Rattle.text.specs.declared.Stop.{Stop}
 use Rattle.pattern.specs.Expansions.{Variable}
 use Rattle.pattern.specs.Faults.{patternFault}
 use Rattle.pattern.specs.Table.{bytesAt, env}
-use Rattle.rule.specs.Rules.{RuleRead, RulesRead, Step, More, Close, endAt, followed, noRules, ruleAt, rulesAt, stepThen}
+use Rattle.rule.specs.Rules.{Rule, RuleRead, RulesRead, Step, More, Close, endAt, followed, noRules, ruleAt, rulesAt, stepThen}
 use Rattle.text.specs.Places.{refusedBy, spanOf}
 use Rattle.text.specs.declared.Span.{Span}
 use Rattle.statement.specs.Steps.{Counted, counted, rulesFrom}
+use Rattle.statement.proofs.Laws.{rules-unjudged}
 use Rattle.body.specs.Places.{seenRules}
 use Rattle.body.specs.declared.RulesRead as code
 use Rattle.body.specs.declared.RulesRead.the-variants as rules-read
@@ -35,8 +36,8 @@ use Rattle.heads.specs.Heads.{Head, headAt, nameAt}
 use Rattle.heads.specs.Places.{namesOf, seenHead}
 use Rattle.heads.specs.declared.HeadRead.{HeadRead}
 use Rattle.heads.specs.declared.HeadRead.the-variants as head
-use Rattle.profile.specs.Profiles.{OneProfile, Profile, ends, fileOf, oneProfile, profileAt, profilesAt, unlessEnd}
-use Rattle.profile.specs.Places.{Judged, Accepted, Rejected, OneMore, judgedOf, profileOf, profilesFrom, profilesOf, seenFile, seenProfile, seenProfiles}
+use Rattle.profile.specs.Profiles.{OneProfile, Profile, ends, fileWithin, oneProfile, profileAt, profilesAt, ruleCount, rulesIn, unlessEnd}
+use Rattle.profile.specs.Places.{FileKept, Judged, Accepted, Kept, Rejected, OneMore, judgedOf, profileOf, profilesAgain, profilesBy, profilesFrom, profilesOf, rulesRead, seenFile, seenProfile, seenProfiles}
 use Rattle.profile.specs.declared.Profiles.{Profiles}
 use Rattle.profile.specs.declared.ProfileRead.{ProfileRead}
 use Rattle.profile.specs.declared.ProfileRead.the-variants as profile-read
@@ -146,6 +147,18 @@ module _ (full : Bool) (left : ℕ) (used : List (List ℕ)) (vs : List Variable
       go (Read h) q = rules h (rulesAt left (patternFault vs) s (h .next)) refl q
       go (Refused n p) q = let z : _≡_ {A = ℕ} 0 1 = cc in absurd (omega arith)
 
+  profile-count : {x : OneProfile} → profileAt full left used vs s at ≡ Read x → length (x .profile .rules) ≡ x .count
+  unfolding profileAt
+  profile-count {x} e = go (headAt full used s at) e
+    where
+      rules : (h : Head) (y : Reading RulesRead) → (y >>= λ rs. Read (oneProfile (h .name) rs)) ≡ Read x → length (x .profile .rules) ≡ x .count
+      rules h (Read rs) q = let k : x ≡ oneProfile (h .name) rs = cc in rw k
+      rules h (Refused n p) q = let z : _≡_ {A = ℕ} 0 1 = cc in absurd (omega arith)
+
+      go : (y : Reading Head) → (y >>= λ h. rulesAt left (patternFault vs) s (h .next) >>= λ rs. Read (oneProfile (h .name) rs)) ≡ Read x → length (x .profile .rules) ≡ x .count
+      go (Read h) q = rules h (rulesAt left (patternFault vs) s (h .next)) q
+      go (Refused n p) q = let z : _≡_ {A = ℕ} 0 1 = cc in absurd (omega arith)
+
 -- ---- all profiles, by what stands first
 
 -- profiles read before others
@@ -206,7 +219,7 @@ nextOf vs s p rulesLeft at = profileAt (leb 32 (p .count)) rulesLeft (namesOf s 
 
 module _ (vs : List Variable) (s : List ℕ) (p : Profiles) (left at : ℕ) where
   pub read-none : p .count ≡ 0 → readFrom vs s p left at ≡ profilesAt 32 left [] vs s at
-  unfolding profilesFrom namesOf
+  unfolding profilesBy namesOf
   read-none e =
       ap (λ (n : ℕ). after (profilesFrom vs s (p .table) n 0) (profilesAt (32 - n) left (namesOf s (p .table) n) vs s at)) e
       ∙ after-none (profilesAt 32 left [] vs s at)
@@ -249,7 +262,7 @@ module _ (vs : List Variable) (s : List ℕ) (p : Profiles) (left at : ℕ) wher
           ap (λ (m : ℕ). after ps (profilesAt m left used vs s at)) a
           ∙ ap (after ps) (profiles-by left used vs s at e (32 - new .count) ∙ rw (rw b at f))
           ∙ after-one ps x (profilesAt (32 - new .count) (left - k) (spanOf s name ∷ used) vs s n)
-          ∙ ap₂ (λ (l : List Profile) (u : List (List ℕ)). after l (profilesAt (32 - new .count) (left - k) u vs s n)) (sym (w .last vs s)) (sym (w .names s))
+          ∙ ap₂ (λ (l : List Profile) (u : List (List ℕ)). after l (profilesAt (32 - new .count) (left - k) u vs s n)) (sym (w .last (patternFault vs) s)) (sym (w .names s))
 
 -- a turn of reading profiles, by what was read
 module _ (vs : List Variable) (s : List ℕ) (p : Profiles) (left at : ℕ) (low : p .count ≤ 32) (r : ProfileRead) (e : seenProfile vs s r ≡ nextOf vs s p left at) where
@@ -268,18 +281,24 @@ module _ (vs : List Variable) (s : List ℕ) (p : Profiles) (left at : ℕ) (low
     pub turn-left : k ≤ left
     turn-left = profile-left (leb 32 (p .count)) left (namesOf s (p .table) (p .count)) vs s at told
 
-    pub turn-more : ends (tokenAt noStop s at) ≡ false → {new : Profiles} → OneMore p name rules k new → readFrom vs s p left at ≡ readFrom vs s new (left - k) (next .0)
+    turn-count : length (rulesFrom k (patternFault vs) s (rules .0)) ≡ k
+    turn-count = profile-count (leb 32 (p .count)) left (namesOf s (p .table) (p .count)) vs s at told
+
+    turn-again : rulesFrom k (λ _. 0) s (rules .0) ≡ rulesFrom k (patternFault vs) s (rules .0)
+    turn-again = rules-unjudged (patternFault vs) s k (rules .0) turn-count
+
+    turn-more : ends (tokenAt noStop s at) ≡ false → {new : Profiles} → OneMore p name rules k new → readFrom vs s p left at ≡ readFrom vs s new (left - k) (next .0)
     turn-more b w = read-more vs s p left at low b w told
 
 -- ---- a profile stored
 
 -- one profile more at the end
-profiles-last : (vs : List Variable) (s t : List ℕ) (k i : ℕ) → profilesFrom vs s t (suc k) i ≡ profilesFrom vs s t k i ++ (profileOf vs s t (i + k) ∷ [])
-unfolding profilesFrom
-profiles-last vs s t zero i = let e : i + 0 ≡ i = omega arith in rw e
-profiles-last vs s t (suc k) i =
+profiles-last : (fault : List ℕ → ℕ) (s t : List ℕ) (k i : ℕ) → profilesBy fault s t (suc k) i ≡ profilesBy fault s t k i ++ (profileOf fault s t (i + k) ∷ [])
+unfolding profilesBy
+profiles-last fault s t zero i = let e : i + 0 ≡ i = omega arith in rw e
+profiles-last fault s t (suc k) i =
     let e : i + 1 + k ≡ i + suc k = omega arith in
-    ap (λ (l : List Profile). profileOf vs s t i ∷ l) (profiles-last vs s t k (i + 1) ∙ rw e)
+    ap (λ (l : List Profile). profileOf fault s t i ∷ l) (profiles-last fault s t k (i + 1) ∙ rw e)
 
 module _ (t : List ℕ) (i a e r k : ℕ) where
   abbrev one : List ℕ
@@ -312,13 +331,13 @@ module _ (t : List ℕ) (i a e r k : ℕ) where
     names-kept zero h = refl
     names-kept (suc n) h = ap₂ _∷_ (bytes-kept (4 * n) (omega arith)) (names-kept n (omega arith))
 
-    profiles-kept : (vs : List Variable) (n j : ℕ) → j + n ≤ i → profilesFrom vs s stored n j ≡ profilesFrom vs s t n j
-    unfolding profilesFrom
-    profiles-kept vs zero j h = refl
-    profiles-kept vs (suc n) j h =
+    profiles-kept : (fault : List ℕ → ℕ) (n j : ℕ) → j + n ≤ i → profilesBy fault s stored n j ≡ profilesBy fault s t n j
+    unfolding profilesBy
+    profiles-kept fault zero j h = refl
+    profiles-kept fault (suc n) j h =
         ap₂ _∷_
         (rw (bytes-kept (4 * j) (omega arith), kept (4 * j + 2) (omega arith), kept (4 * j + 3) (omega arith)))
-        (profiles-kept vs n (j + 1) (omega arith))
+        (profiles-kept fault n (j + 1) (omega arith))
 
   -- and it is there
   module _ (size : length t ≡ 128) (h : i < 32) where
@@ -361,13 +380,78 @@ one-more p name rules k size h =
           ∙ ap₂ _∷_
           (ap₂ (λ (x y : ℕ). span s x y) (first t i a e r k size h) (second t i a e r k size h))
           (names-kept t i a e r k s i (omega arith));
-      last = λ vs s.
-          ap (λ (n : ℕ). profilesFrom vs s new n 0) (add-one i)
-          ∙ profiles-last vs s new i 0
+      last = λ fault s.
+          ap (λ (n : ℕ). profilesBy fault s new n 0) (add-one i)
+          ∙ profiles-last fault s new i 0
           ∙ ap₂ (λ (l : List Profile) (x : Profile). l ++ (x ∷ []))
-          (profiles-kept t i a e r k s vs i 0 (omega arith))
+          (profiles-kept t i a e r k s fault i 0 (omega arith))
           (rw (z, first t i a e r k size h, second t i a e r k size h, third t i a e r k size h, fourth t i a e r k size h));
     }
+
+-- ---- reading profiles, turn by turn
+
+rules-one : (ps : List Profile) (x : Profile) → rulesIn (ps ++ (x ∷ [])) ≡ rulesIn ps + length (x .rules)
+unfolding rulesIn
+rules-one [] x = omega arith
+rules-one (p ∷ ps) x = omega (arith, rules-one ps x)
+
+-- what is known of the profiles that were read, where so many rules were allowed and some are left
+pub record SoFar (vs : List Variable) (s : List ℕ) (allowed from : ℕ) (p : Profiles) (left at : ℕ) : Type 0 where
+  pub low : p .count ≤ 32
+  pub read : readFrom vs s p left at ≡ profilesAt 32 allowed [] vs s from
+  pub again : profilesAgain s (p .table) (p .count) 0 ≡ profilesFrom vs s (p .table) (p .count) 0
+  pub rules : rulesIn (profilesFrom vs s (p .table) (p .count) 0) + left ≡ allowed
+
+module _ (vs : List Variable) (s : List ℕ) (allowed from : ℕ) (p : Profiles) where
+  pub start : p .count ≡ 0 → SoFar vs s allowed from p allowed from
+  unfolding profilesBy rulesIn
+  start e =
+      record {
+        low = omega arith;
+        read = read-none vs s p allowed from e;
+        again = rw e;
+        rules = rw e (omega arith);
+      }
+
+  module _ (left at : ℕ) (so : SoFar vs s allowed from p left at) where
+    -- one profile more
+    pub more : (r : ProfileRead) → seenProfile vs s r ≡ nextOf vs s p left at → (name : Span) (rules : Place) (k : ℕ) (next : Place) →
+        r ≡ profile-read.Good name rules k next → ends (tokenAt noStop s at) ≡ false → {new : Profiles} → OneMore p name rules k new →
+        SoFar vs s allowed from new (left - k) (next .0)
+    more r e name rules k next g b {new} w =
+        let room : p .count < 32 = turn-room vs s p left at (so .low) r e name rules k next g in
+        let fits : k ≤ left = turn-left vs s p left at (so .low) r e name rules k next g in
+        let size : length (rulesFrom k (patternFault vs) s (rules .0)) ≡ k = turn-count vs s p left at (so .low) r e name rules k next g in
+        let x : Profile = record { name = spanOf s name; rules = rulesFrom k (patternFault vs) s (rules .0) } in
+        let ps : List Profile = profilesFrom vs s (p .table) (p .count) 0 in
+        let total : rulesIn (profilesFrom vs s (new .table) (new .count) 0) ≡ rulesIn ps + k =
+        ap rulesIn (w .last (patternFault vs) s) ∙ rules-one ps x ∙ ap (λ (n : ℕ). rulesIn ps + n) size in
+        record {
+          low = omega (arith, w .count);
+          read = sym (turn-more vs s p left at (so .low) r e name rules k next g b w) ∙ so .read;
+          again =
+              w .last (λ _. 0) s
+              ∙ ap₂ (λ (l : List Profile) (y : List Rule). l ++ (record { name = spanOf s name; rules = y } ∷ []))
+              (so .again)
+              (turn-again vs s p left at (so .low) r e name rules k next g)
+              ∙ sym (w .last (patternFault vs) s);
+          rules = omega (arith, total, so .rules);
+        }
+
+    -- where the text ends, or is refused
+    pub kept-end : (r : ProfilesRead) → r .refused ≡ false → r .profiles ≡ p → r .rules ≡ allowed - left → Kept vs s allowed r
+    unfolding seenProfiles rulesRead
+    kept-end r a b c =
+        record {
+          few = rw b (so .low);
+          again = rw b (so .again);
+          rules = rw (a, b, c, seenProfiles) (omega (arith, so .rules));
+          fits = omega arith;
+        }
+
+    pub kept-refused : (r : ProfilesRead) → r .refused ≡ true → r .profiles ≡ p → r .rules ≡ 0 → Kept vs s allowed r
+    unfolding seenProfiles rulesRead
+    kept-refused r a b c = record { few = rw b (so .low); again = rw b (so .again); rules = rw (a, c, seenProfiles); fits = omega arith }
 
 -- ---- the whole text
 
@@ -399,30 +483,56 @@ seen-judged s t r ps a b c d e = go (ps .refused) refl
     go true q = rw (a, q, b, c, seenFile)
     go false q = rw (a, q, d, e, seenFile)
 
--- as the definition tells it
-file-judged : (s : List ℕ) (vs : List Variable) → ((p : Preamble) → preambleAt 512 [] s 0 ≡ Read p → vs ≡ p .variables) →
-    judgedBy vs s (profilesOf s (preambleOf (preambleAt 512 [] s 0))) ≡ judgedOf s (fileOf s)
-unfolding judgedBy judgedOf fileOf profilesOf preambleOf
-file-judged s vs f = go (preambleAt 512 [] s 0) refl
-  where
-    profiles : (p : Preamble) → vs ≡ finalSets [] (p .assignments) → (y : Reading (List Profile)) →
-        judgedBy vs s y ≡ judgedOf s (y >>= λ ps. Read (record { preamble = p .assignments; profiles = ps }))
-    profiles p e (Read ps) = ap (λ (l : List Variable). Accepted l ps) e
-    profiles p e (Refused n q) = refl
+module _ (allowed : ℕ) (s : List ℕ) where
+  -- as the definition tells it
+  file-judged : (vs : List Variable) → ((p : Preamble) → preambleAt 512 [] s 0 ≡ Read p → vs ≡ p .variables) →
+      judgedBy vs s (profilesOf allowed s (preambleOf (preambleAt 512 [] s 0))) ≡ judgedOf s (fileWithin allowed s)
+  unfolding judgedBy judgedOf fileWithin profilesOf preambleOf
+  file-judged vs f = go (preambleAt 512 [] s 0) refl
+    where
+      profiles : (p : Preamble) → vs ≡ finalSets [] (p .assignments) → (y : Reading (List Profile)) →
+          judgedBy vs s y ≡ judgedOf s (y >>= λ ps. Read (record { preamble = p .assignments; profiles = ps }))
+      profiles p e (Read ps) = ap (λ (l : List Variable). Accepted l ps) e
+      profiles p e (Refused n q) = refl
 
-    go : (x : Reading Preamble) → preambleAt 512 [] s 0 ≡ x →
-        judgedBy vs s (profilesOf s (preambleOf x))
-        ≡ judgedOf s (x >>= λ p. profilesAt 32 512 [] (p .variables) s (p .next) >>= λ ps. Read (record { preamble = p .assignments; profiles = ps }))
-    go (Read p) e = profiles p (f p e ∙ preamble-sets 512 [] s 0 p e) (profilesAt 32 512 [] (p .variables) s (p .next))
-    go (Refused n q) e = refl
+      go : (x : Reading Preamble) → preambleAt 512 [] s 0 ≡ x →
+          judgedBy vs s (profilesOf allowed s (preambleOf x))
+          ≡ judgedOf s (x >>= λ p. profilesAt 32 allowed [] (p .variables) s (p .next) >>= λ ps. Read (record { preamble = p .assignments; profiles = ps }))
+      go (Read p) e = profiles p (f p e ∙ preamble-sets 512 [] s 0 p e) (profilesAt 32 allowed [] (p .variables) s (p .next))
+      go (Refused n q) e = refl
 
-pub file-read : (s t : List ℕ) (p : PreambleRead) (ps : ProfilesRead) (r : FileRead) →
-    seenPreamble s t p ≡ preambleOf (preambleAt 512 [] s 0) → seenProfiles (env s t (p .count)) s ps ≡ profilesOf s (seenPreamble s t p) →
-    r .vars ≡ p .count → r .refused ≡ ps .refused → r .refusal .number ≡ ps .stop .number →
-    r .refusal .line ≡ lineOf s (ps .stop .place .0) → r .profiles ≡ ps .profiles .table → r .count ≡ ps .profiles .count → seenFile s t r ≡ judgedOf s (fileOf s)
-unfolding preambleOf
-file-read s t p ps r e f v a b c d k =
-    seen-judged s t r ps a b c d k
-    ∙ ap (λ (n : ℕ). judgedBy (env s t n) s (seenProfiles (env s t n) s ps)) v
-    ∙ ap (judgedBy (env s t (p .count)) s) (f ∙ ap (profilesOf s) e)
-    ∙ file-judged s (env s t (p .count)) (λ q g. held-read s t p (record { variables = q .variables; next = q .next }) (e ∙ ap preambleOf g))
+  -- how many rules there are
+  rules-counted : rulesRead (profilesOf allowed s (preambleOf (preambleAt 512 [] s 0))) ≡ ruleCount (fileWithin allowed s)
+  unfolding rulesRead ruleCount fileWithin profilesOf preambleOf
+  rules-counted = go (preambleAt 512 [] s 0)
+    where
+      profiles : (p : Preamble) (y : Reading (List Profile)) → rulesRead y ≡ ruleCount (y >>= λ ps. Read (record { preamble = p .assignments; profiles = ps }))
+      profiles p (Read ps) = refl
+      profiles p (Refused n q) = refl
+
+      go : (x : Reading Preamble) →
+          rulesRead (profilesOf allowed s (preambleOf x))
+          ≡ ruleCount (x >>= λ p. profilesAt 32 allowed [] (p .variables) s (p .next) >>= λ ps. Read (record { preamble = p .assignments; profiles = ps }))
+      go (Read p) = profiles p (profilesAt 32 allowed [] (p .variables) s (p .next))
+      go (Refused n q) = refl
+
+  module _ (t : List ℕ) (p : PreambleRead) (ps : ProfilesRead) (e : seenPreamble s t p ≡ preambleOf (preambleAt 512 [] s 0))
+      (f : seenProfiles (env s t (p .count)) s ps ≡ profilesOf allowed s (seenPreamble s t p)) (r : FileRead) (v : r .vars ≡ p .count) where
+    pub file-read : r .refused ≡ ps .refused → r .refusal .number ≡ ps .stop .number → r .refusal .line ≡ lineOf s (ps .stop .place .0) →
+        r .profiles ≡ ps .profiles .table → r .count ≡ ps .profiles .count → seenFile s t r ≡ judgedOf s (fileWithin allowed s)
+    unfolding preambleOf
+    file-read a b c d k =
+        seen-judged s t r ps a b c d k
+        ∙ ap (λ (n : ℕ). judgedBy (env s t n) s (seenProfiles (env s t n) s ps)) v
+        ∙ ap (judgedBy (env s t (p .count)) s) (f ∙ ap (profilesOf allowed s) e)
+        ∙ file-judged (env s t (p .count)) (λ q g. held-read s t p (record { variables = q .variables; next = q .next }) (e ∙ ap preambleOf g))
+
+    pub file-kept : Kept (env s t (p .count)) s allowed ps → r .profiles ≡ ps .profiles .table → r .count ≡ ps .profiles .count → r .rules ≡ ps .rules →
+        FileKept s t allowed r
+    file-kept k d c h =
+        record {
+          few = rw c (k .few);
+          again = rw (c, d, v) (k .again);
+          rules = h ∙ k .rules ∙ ap rulesRead (f ∙ ap (profilesOf allowed s) e) ∙ rules-counted;
+          fits = rw h (k .fits);
+        }

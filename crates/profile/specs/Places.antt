@@ -1,6 +1,6 @@
 -- The table of profiles, as numbers, and what the code's values mean over the text: profile i has the places of its name at 4 * i,
 -- the place where its rules start at 4 * i + 2, and their number at 4 * i + 3.
-use Prim.Native.Nat.{ℕ, zero, suc, _+_, _*_}
+use Prim.Native.Nat.{ℕ, zero, suc, _+_, _*_, _≤_}
 use Prim.Native.Char.{code}
 use mathlib.Core.Path.{_≡_}
 use mathlib.Core.List.{List, [], _∷_, _++_}
@@ -18,7 +18,7 @@ use Rattle.statement.specs.Steps.{rulesFrom}
 use Rattle.preamble.specs.Variables.{finalSets}
 use Rattle.preamble.specs.Places.{State}
 use Rattle.heads.specs.Places.{namesOf}
-use Rattle.profile.specs.Profiles.{Profile, File, OneProfile, profilesAt}
+use Rattle.profile.specs.Profiles.{Profile, File, OneProfile, fileWithin, profilesAt, ruleCount, rulesIn}
 use Rattle.profile.specs.declared.Profiles.{Profiles}
 use Rattle.profile.specs.declared.ProfileRead.{ProfileRead}
 use Rattle.profile.specs.declared.ProfileRead.the-variants as profile-read
@@ -27,23 +27,31 @@ use Rattle.profile.specs.declared.FileRead.{FileRead}
 
 -- ---- the table
 
--- profile i
-abbrev pub profileOf : List Variable → (text t : List ℕ) → ℕ → Profile
-profileOf vs text t i =
-    record { name = bytesAt text t (4 * i); rules = rulesFrom (getD t (4 * i + 3) 0) (patternFault vs) text (getD t (4 * i + 2) 0) }
+-- profile i, where patterns are judged so
+abbrev pub profileOf : (fault : List ℕ → ℕ) → (text t : List ℕ) → ℕ → Profile
+profileOf fault text t i =
+    record { name = bytesAt text t (4 * i); rules = rulesFrom (getD t (4 * i + 3) 0) fault text (getD t (4 * i + 2) 0) }
 
 -- k profiles from profile i on
-unfoldable pub profilesFrom : List Variable → (text t : List ℕ) → (k i : ℕ) → List Profile
-profilesFrom vs text t zero i = []
-profilesFrom vs text t (suc k) i = profileOf vs text t i ∷ profilesFrom vs text t k (i + 1)
+unfoldable pub profilesBy : (fault : List ℕ → ℕ) → (text t : List ℕ) → (k i : ℕ) → List Profile
+profilesBy fault text t zero i = []
+profilesBy fault text t (suc k) i = profileOf fault text t i ∷ profilesBy fault text t k (i + 1)
+
+-- under these variables
+abbrev pub profilesFrom : List Variable → (text t : List ℕ) → (k i : ℕ) → List Profile
+profilesFrom vs text t k i = profilesBy (patternFault vs) text t k i
+
+-- where their patterns are not judged again
+abbrev pub profilesAgain : (text t : List ℕ) → (k i : ℕ) → List Profile
+profilesAgain text t k i = profilesBy (λ _. 0) text t k i
 
 -- a new profile after the others, which are as they were
 pub record OneMore (old : Profiles) (name : Span) (rules : Place) (k : ℕ) (new : Profiles) : Type 0 where
   pub count : new .count ≡ old .count + 1
   pub names : (s : List ℕ) → namesOf s (new .table) (new .count) ≡ spanOf s name ∷ namesOf s (old .table) (old .count)
-  pub last : (vs : List Variable) (s : List ℕ) →
-      profilesFrom vs s (new .table) (new .count) 0
-      ≡ profilesFrom vs s (old .table) (old .count) 0 ++ (record { name = spanOf s name; rules = rulesFrom k (patternFault vs) s (rules .0) } ∷ [])
+  pub last : (fault : List ℕ → ℕ) (s : List ℕ) →
+      profilesBy fault s (new .table) (new .count) 0
+      ≡ profilesBy fault s (old .table) (old .count) 0 ++ (record { name = spanOf s name; rules = rulesFrom k fault s (rules .0) } ∷ [])
 
 -- ---- all profiles
 
@@ -56,11 +64,24 @@ seenProfile vs s (profile-read.Refused stop) = refusedBy stop
 unfoldable pub seenProfiles : List Variable → List ℕ → ProfilesRead → Reading (List Profile)
 seenProfiles vs s r = if r .refused then refusedBy (r .stop) else Read (profilesFrom vs s (r .profiles .table) (r .profiles .count) 0)
 
+-- how many rules were read; none where they are refused
+unfoldable pub rulesRead : Reading (List Profile) → ℕ
+rulesRead (Read ps) = rulesIn ps
+rulesRead (Refused n p) = 0
+
+-- what is known besides: the profiles that were read are the same where their patterns are not judged again, and their rules are
+-- counted, as many as were allowed at most
+pub record Kept (vs : List Variable) (s : List ℕ) (allowed : ℕ) (r : ProfilesRead) : Type 0 where
+  pub few : r .profiles .count ≤ 32
+  pub again : profilesAgain s (r .profiles .table) (r .profiles .count) 0 ≡ profilesFrom vs s (r .profiles .table) (r .profiles .count) 0
+  pub rules : r .rules ≡ rulesRead (seenProfiles vs s r)
+  pub fits : r .rules ≤ allowed
+
 -- ---- the whole text
 
--- the profiles after the assignments
-unfoldable pub profilesOf : List ℕ → Reading State → Reading (List Profile)
-profilesOf s x = x >>= λ p. profilesAt 32 512 [] (p .variables) s (p .next)
+-- the profiles after the assignments, where so many rules are allowed
+unfoldable pub profilesOf : (rules : ℕ) → List ℕ → Reading State → Reading (List Profile)
+profilesOf rules s x = x >>= λ p. profilesAt 32 rules [] (p .variables) s (p .next)
 
 -- a text is accepted with its variables and its profiles, or refused with a number and a line
 pub data Judged : Type 0 where
@@ -76,3 +97,10 @@ unfoldable pub seenFile : (text vars : List ℕ) → FileRead → Judged
 seenFile s t r =
     if r .refused then Rejected (r .refusal .number) (r .refusal .line)
     else Accepted (env s t (r .vars)) (profilesFrom (env s t (r .vars)) s (r .profiles) (r .count) 0)
+
+-- and what is known besides
+pub record FileKept (s t : List ℕ) (allowed : ℕ) (r : FileRead) : Type 0 where
+  pub few : r .count ≤ 32
+  pub again : profilesAgain s (r .profiles) (r .count) 0 ≡ profilesFrom (env s t (r .vars)) s (r .profiles) (r .count) 0
+  pub rules : r .rules ≡ ruleCount (fileWithin allowed s)
+  pub fits : r .rules ≤ allowed

@@ -1,5 +1,5 @@
 -- The profiles of a text, and the whole text.
-use Prim.Native.Nat.{ℕ, zero, suc, _-_}
+use Prim.Native.Nat.{ℕ, zero, suc, _+_, _-_}
 use mathlib.Core.List.{List, [], _∷_}
 use mathlib.Core.Bool.{Bool, true, false}
 use lib.ListN.{length}
@@ -58,9 +58,25 @@ profilesAt (suc left) rulesLeft used vs s at = unlessEnd s at (do
   more ← profilesAt left (rulesLeft - x .count) (x .profile .name ∷ used) vs s (x .next)
   Read (x .profile ∷ more))
 
--- "Comments, variable assignments, then profiles with file rules. Sizes: 32 profiles, 512 rules in the file, 32 variables, 16 values each."
-unfoldable pub fileOf : List ℕ → Reading File
-fileOf s = do
+-- "Comments, variable assignments, then profiles with file rules. Sizes: 32 profiles, .. 32 variables, 16 values each", and so many rules
+unfoldable pub fileWithin : (rules : ℕ) → List ℕ → Reading File
+fileWithin rules s = do
   p ← preambleAt 512 [] s 0
-  ps ← profilesAt 32 512 [] (p .variables) s (p .next)
+  ps ← profilesAt 32 rules [] (p .variables) s (p .next)
   Read (record { preamble = p .assignments; profiles = ps })
+
+-- "512 rules in the file"
+unfoldable pub fileOf : List ℕ → Reading File
+fileOf s = fileWithin 512 s
+
+-- ---- how many rules there are
+
+-- in all these profiles
+unfoldable pub rulesIn : List Profile → ℕ
+rulesIn [] = 0
+rulesIn (p ∷ ps) = length (p .rules) + rulesIn ps
+
+-- in an accepted text; none in a refused one
+unfoldable pub ruleCount : Reading File → ℕ
+ruleCount (Read f) = rulesIn (f .profiles)
+ruleCount (Refused n p) = 0

@@ -6,6 +6,7 @@ use heads::head_at;
 use measure::sizes_of;
 use preamble::PreambleRead;
 use preamble::preamble_at;
+use scan::least;
 use text::Place;
 use text::Refusal;
 use text::Span;
@@ -13,15 +14,15 @@ use text::Stop;
 use tokens::Read;
 ghost use mathlib.Core.Path.{_≡_};
 ghost use mathlib.Core.List.{[]};
-ghost use Prim.Native.Nat.{_≤_, _<_};
+ghost use Prim.Native.Nat.{_≤_, _<_, min};
 ghost use lib.Dec.{leb};
 ghost use Rattle.tokens.specs.Tokens.{noStop, tokenAt};
 ghost use Rattle.pattern.specs.Table.{env};
 ghost use Rattle.sizes.specs.Sizes.{Known};
-ghost use Rattle.profile.specs.Profiles.{ends, fileOf, profileAt, profilesAt};
+ghost use Rattle.profile.specs.Profiles.{ends, fileWithin, profileAt, profilesAt};
 ghost use Rattle.preamble.specs.Places.{seenPreamble};
 ghost use Rattle.heads.specs.Places.{namesOf};
-ghost use Rattle.profile.specs.Places.{OneMore, judgedOf, profilesOf, seenFile, seenProfile, seenProfiles};
+ghost use Rattle.profile.specs.Places.{FileKept, Kept, OneMore, judgedOf, profilesOf, seenFile, seenProfile, seenProfiles};
 
 // The most rules of a text.
 pub const RULES: usize = 512;
@@ -114,34 +115,37 @@ fn with_profile(profiles: Profiles, name: Span, rules: Place, count: usize) -> P
     u
 }
 
-// The refusal, or the profiles.
+// The refusal, or the profiles and how many rules they have.
 pub struct ProfilesRead {
     pub refused: bool,
     pub stop: Stop,
     pub profiles: Profiles,
+    pub rules: usize,
 }
 
-// The profiles from a place on, under the first n variables, whose sizes are known.
+// The profiles from a place on, under the first n variables, whose sizes are known, where so many rules are allowed.
 fn profiles_at(
     text: &[u8],
     vars: &[usize],
     n: usize,
     sizes: &[usize; 132],
+    allowed: usize,
     at: Place,
 ) -> ProfilesRead
     requires { ⌜ Known (now text) (now vars) n (now sizes) ⌝ }
-    ensures { λ r. ⌜ seenProfiles (env (now (text .entry)) (now (vars .entry)) n) (now (text .entry)) r ≡ profilesAt 32 512 [] (env (now (text .entry)) (now (vars .entry)) n) (now (text .entry)) (at .0) ⌝ }
-    ensures few { λ r. ⌜ r .profiles .count ≤ 32 ⌝ }
+    ensures { λ r. ⌜ seenProfiles (env (now (text .entry)) (now (vars .entry)) n) (now (text .entry)) r ≡ profilesAt 32 allowed [] (env (now (text .entry)) (now (vars .entry)) n) (now (text .entry)) (at .0) ⌝ }
+    ensures kept { λ r. ⌜ Kept (env (now (text .entry)) (now (vars .entry)) n) (now (text .entry)) allowed r ⌝ }
 {
     let mut profiles = no_profiles();
     let mut place = at;
-    let mut left = RULES;
+    let mut left = allowed;
     loop {
         if ends_at(text, place) {
             return ProfilesRead {
                 refused: false,
                 stop: Stop { number: 0, place },
                 profiles,
+                rules: allowed - left,
             };
         }
         let k = profiles.count;
@@ -162,6 +166,7 @@ fn profiles_at(
                     refused: true,
                     stop,
                     profiles,
+                    rules: 0,
                 };
             }
         }
@@ -170,20 +175,27 @@ fn profiles_at(
 
 // ---- the whole text
 
-// The refusal, or how many variables are set, the table of profiles, and how many it has.
+// The refusal, or how many variables are set, the table of profiles, how many it has, and how many rules these have.
 pub struct FileRead {
     pub refused: bool,
     pub refusal: Refusal,
     pub vars: usize,
     pub profiles: [usize; 128],
     pub count: usize,
+    pub rules: usize,
 }
 
-// The profiles after the assignments, or the refusal.
-fn profiles_of(text: &[u8], vars: &[usize], p: PreambleRead, sizes: &[usize; 132]) -> ProfilesRead
+// The profiles after the assignments, where so many rules are allowed, or the refusal.
+fn profiles_of(
+    text: &[u8],
+    vars: &[usize],
+    p: PreambleRead,
+    sizes: &[usize; 132],
+    allowed: usize,
+) -> ProfilesRead
     requires { ⌜ Known (now text) (now vars) (p .count) (now sizes) ⌝ }
-    ensures { λ r. ⌜ seenProfiles (env (now (text .entry)) (now (vars .entry)) (p .count)) (now (text .entry)) r ≡ profilesOf (now (text .entry)) (seenPreamble (now (text .entry)) (now (vars .entry)) p) ⌝ }
-    ensures few { λ r. ⌜ r .profiles .count ≤ 32 ⌝ }
+    ensures { λ r. ⌜ seenProfiles (env (now (text .entry)) (now (vars .entry)) (p .count)) (now (text .entry)) r ≡ profilesOf allowed (now (text .entry)) (seenPreamble (now (text .entry)) (now (vars .entry)) p) ⌝ }
+    ensures kept { λ r. ⌜ Kept (env (now (text .entry)) (now (vars .entry)) (p .count)) (now (text .entry)) allowed r ⌝ }
 {
     let stop = p.stop;
     let next = p.next;
@@ -193,20 +205,22 @@ fn profiles_of(text: &[u8], vars: &[usize], p: PreambleRead, sizes: &[usize; 132
             refused: true,
             stop,
             profiles,
+            rules: 0,
         };
     }
-    profiles_at(text, vars, p.count, sizes, next)
+    profiles_at(text, vars, p.count, sizes, allowed, next)
 }
 
-// Judges a whole text, and sets its variables in the table. What stood there before is of no matter.
-pub fn read(text: &[u8], vars: &mut [usize; 1120]) -> FileRead
-    ensures { λ r. ⌜ seenFile (now (text .entry)) (now (vars .exit)) r ≡ judgedOf (now (text .entry)) (fileOf (now (text .entry))) ⌝ }
-    ensures few { λ r. ⌜ r .count ≤ 32 ⌝ }
+// Judges a whole text, where so many rules have room, 512 at most, and sets its variables in the table. What stood there before is of no
+// matter.
+pub fn read(text: &[u8], vars: &mut [usize; 1120], rooms: usize) -> FileRead
+    ensures { λ r. ⌜ seenFile (now (text .entry)) (now (vars .exit)) r ≡ judgedOf (now (text .entry)) (fileWithin (min 512 rooms) (now (text .entry))) ⌝ }
+    ensures kept { λ r. ⌜ FileKept (now (text .entry)) (now (vars .exit)) (min 512 rooms) r ⌝ }
 {
     let p = preamble_at(text, vars);
     let n = p.count;
     let known = sizes_of(text, vars, n);
-    let ps = profiles_of(text, vars, p, &known.table);
+    let ps = profiles_of(text, vars, p, &known.table, least(RULES, rooms));
     let found = ps.profiles;
     let profiles = found.table;
     let stop = ps.stop;
@@ -219,5 +233,6 @@ pub fn read(text: &[u8], vars: &mut [usize; 1120]) -> FileRead
         vars: n,
         profiles,
         count: found.count,
+        rules: ps.rules,
     }
 }

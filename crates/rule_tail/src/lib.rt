@@ -75,7 +75,7 @@ fn leads_to_profile(kind: Kind) -> bool
 }
 
 // Whether a target may follow: only after p and c modes.
-fn takes_target(transition: Transition) -> bool
+pub fn takes_target(transition: Transition) -> bool
     ensures { λ r. ⌜ r ≡ takesTarget transition ⌝ }
 {
     match transition {

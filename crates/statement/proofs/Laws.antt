@@ -1,25 +1,30 @@
 -- What the definitions of rules say, by what stands first.
 use Prim.Native.Nat.{ℕ, zero, suc, _+_}
 use mathlib.Core.Path.{_≡_, refl, ap, sym, _∙_}
-use mathlib.Core.List.{List}
+use mathlib.Core.List.{List, _∷_}
 use mathlib.Core.Bool.{Bool, true, false}
 use lib.ListN.{length, drop}
 use native.Mathlib.Omega.{arith}
 use Rattle.scan.specs.Bytes.{bytes, startsWith}
 use Rattle.text.specs.Reading.{Reading, Read, Refused, _>>=_, judged}
 use Rattle.tokens.specs.Tokens.{Token}
-use Rattle.blanks.specs.Blanks.{standing}
+use Rattle.blanks.specs.Blanks.{standing, standsAt}
 use Rattle.blanks.proofs.Laws.{standing-settled}
 use Rattle.text.specs.Places.{refusedBy}
 use Rattle.text.specs.declared.Place.{Place}
 use Rattle.text.specs.declared.Stop.{Stop}
-use Rattle.rule.specs.Rules.{RuleRead, RulesRead, Step, More, Close, bodyAt, endAt, followed, noRules, qualifiersAt, ruleAt, rulesAt}
+use Rattle.rule_tail.specs.Tails.{permsAt}
+use Rattle.rule.specs.Rules.{Rule, Qualifiers, RuleRead, RulesRead, Step, More, Close, bodyAt, endAt, followed, noRules, patternAt, qualifiersAt, ruleAt, ruleEnd, ruleFrom, rulesAt}
 use Rattle.rule.proofs.Laws.{Alike, alike, pattern-alike, rule-alike}
-use Rattle.rule.specs.Places.{ruleOf}
+use Rattle.tokens.specs.Places.{tokenOf}
+use Rattle.tokens.specs.declared.Token as token
+use Rattle.rule.specs.Places.{ruleOf, seenQualifiers}
 use Rattle.rule.specs.declared.Rule as rule
-use Rattle.statement.specs.Steps.{Counted, counted, countedEnd}
-use Rattle.statement.specs.Places.{seenStep}
+use Rattle.rule.specs.declared.Qualifiers as qualifiers
+use Rattle.statement.specs.Steps.{Counted, Start, Closing, Starting, counted, countedEnd, ruleThen, rulesFrom, startAt, stepBy, stepFrom}
+use Rattle.statement.specs.Places.{seenStart, seenStep}
 use Rattle.statement.specs.declared as code
+use Rattle.statement.specs.declared.Start.the-variants as start
 use Rattle.statement.specs.declared.Step.the-variants as step
 
 -- ---- a fault is refused
@@ -112,3 +117,85 @@ rule-standing fault s at =
   where
     read : Bool → ℕ → Reading Token → (Token → Reading RuleRead) → Reading Step
     read close place p f = elim close [ true ↦ Read (Close (place + 1)) | false ↦ p >>= λ t. f t >>= λ r. Read (More r) ]
+
+-- ---- a rule, by what stands where it could start
+
+start-step : (fault : List ℕ → ℕ) (s : List ℕ) (at : ℕ) → (startAt s at >>= stepFrom fault s) ≡ ruleAt fault s at
+unfolding startAt ruleAt bodyAt
+start-step fault s at = go (standsAt (bytes "}") s at) (patternAt s (qualifiersAt s at))
+  where
+    q : Qualifiers
+    q = qualifiersAt s at
+
+    go : (b : Bool) (p : Reading Token) →
+        ((elim b as (λ _. Reading Start) [ true ↦ Read (Closing (standing s at + 1)) | false ↦ p >>= λ t. Read (Starting q t) ]) >>= stepFrom fault s)
+        ≡ (elim b as (λ _. Reading Step) [ true ↦ Read (Close (standing s at + 1)) | false ↦ p >>= λ t. ruleFrom fault s q t >>= λ r. Read (More r) ])
+    go true p = refl
+    go false (Read t) = refl
+    go false (Refused n p) = refl
+
+-- from where it stands
+by-start : (fault : List ℕ → ℕ) (s : List ℕ) (at : ℕ) {place : ℕ} → place ≡ standing s at → {x : Reading Start} → x ≡ startAt s place →
+    (x >>= stepFrom fault s) ≡ ruleAt fault s at
+by-start fault s at {place} e {x} f =
+    ap (λ (y : Reading Start). y >>= stepFrom fault s) f
+    ∙ start-step fault s place
+    ∙ ap (ruleAt fault s) e
+    ∙ rule-standing fault s at
+
+-- by what the code found there
+module _ (fault : List ℕ → ℕ) (s : List ℕ) (at : ℕ) {place : ℕ} (e : place ≡ standing s at) {r : code.Start.Start} (f : seenStart s r ≡ startAt s place) where
+  pub by-close : {n : Place} → r ≡ start.Close n → Read (Close (n .0)) ≡ ruleAt fault s at
+  unfolding seenStart
+  by-close g = rw (g, seenStart) at (by-start fault s at e f)
+
+  pub by-refused : {stop : Stop} → r ≡ start.Refused stop → refusedBy stop ≡ ruleAt fault s at
+  unfolding seenStart
+  by-refused g = rw (g, seenStart) at (by-start fault s at e f)
+
+  pub by-rule : {q : qualifiers.Qualifiers} {t : token.Token} → r ≡ start.Pattern q t → stepBy (ruleFrom fault s (seenQualifiers q) (tokenOf s t)) ≡ ruleAt fault s at
+  unfolding seenStart
+  by-rule g = rw (g, seenStart) at (by-start fault s at e f)
+
+-- ---- what was read is read again without judging patterns
+
+module _ (fault : List ℕ → ℕ) (s : List ℕ) where
+  from-again : (q : Qualifiers) (t : Token) {r : RuleRead} → ruleFrom fault s q t ≡ Read r → ruleFrom (λ _. 0) s q t ≡ Read r
+  unfolding ruleFrom
+  from-again q t {r} e = go (fault (t .content)) e
+    where
+      go : (n : ℕ) → (judged n (t .start) >>= λ _. permsAt (q .deny) s (t .next) >>= λ p. ruleEnd s q t p) ≡ Read r →
+          (permsAt (q .deny) s (t .next) >>= λ p. ruleEnd s q t p) ≡ Read r
+      go zero f = f
+      go (suc n) f = let z : _≡_ {A = ℕ} 0 1 = cc in absurd (omega arith)
+
+  pub rule-unjudged : (at : ℕ) {x : Step} → ruleAt fault s at ≡ Read x → ruleAt (λ _. 0) s at ≡ Read x
+  unfolding ruleAt bodyAt
+  rule-unjudged at {x} e = go (standsAt (bytes "}") s at) (patternAt s (qualifiersAt s at)) e
+    where
+      q : Qualifiers
+      q = qualifiersAt s at
+
+      rule : (t : Token) (y : Reading RuleRead) → ruleFrom fault s q t ≡ y → (y >>= λ r. Read (More r)) ≡ Read x → (ruleFrom (λ _. 0) s q t >>= λ r. Read (More r)) ≡ Read x
+      rule t (Read r) f g = rw (from-again q t f) g
+      rule t (Refused n p) f g = let z : _≡_ {A = ℕ} 0 1 = cc in absurd (omega arith)
+
+      go : (b : Bool) (p : Reading Token) →
+          (elim b as (λ _. Reading Step) [ true ↦ Read (Close (standing s at + 1)) | false ↦ p >>= λ t. ruleFrom fault s q t >>= λ r. Read (More r) ]) ≡ Read x →
+          (elim b as (λ _. Reading Step) [ true ↦ Read (Close (standing s at + 1)) | false ↦ p >>= λ t. ruleFrom (λ _. 0) s q t >>= λ r. Read (More r) ]) ≡ Read x
+      go true p f = f
+      go false (Read t) f = rule t (ruleFrom fault s q t) refl f
+      go false (Refused n p) f = f
+
+  -- rules that were all read
+  pub rules-unjudged : (k at : ℕ) → length (rulesFrom k fault s at) ≡ k → rulesFrom k (λ _. 0) s at ≡ rulesFrom k fault s at
+  unfolding rulesFrom
+  rules-unjudged zero at e = refl
+  rules-unjudged (suc k) at e = go (λ r. rules-unjudged k (r .next)) (ruleAt fault s at) refl e
+    where
+      go : ((r : RuleRead) → length (rulesFrom k fault s (r .next)) ≡ k → rulesFrom k (λ _. 0) s (r .next) ≡ rulesFrom k fault s (r .next)) →
+          (x : Reading Step) → ruleAt fault s at ≡ x → length (ruleThen (λ r. rulesFrom k fault s (r .next)) x) ≡ suc k →
+          ruleThen (λ r. rulesFrom k (λ _. 0) s (r .next)) (ruleAt (λ _. 0) s at) ≡ ruleThen (λ r. rulesFrom k fault s (r .next)) x
+      go i (Read (More r)) f g = rw (rule-unjudged at f) (ap (λ (l : List Rule). r .rule ∷ l) (i r (omega arith)))
+      go i (Read (Close n)) f g = absurd (omega arith)
+      go i (Refused n p) f g = absurd (omega arith)

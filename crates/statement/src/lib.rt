@@ -17,7 +17,8 @@ ghost use Rattle.tokens.specs.Places.{tokenOf};
 ghost use Rattle.faults.specs.Sized.{faultBy};
 ghost use Rattle.rule.specs.Rules.{ruleAt, ruleEnd, ruleFrom};
 ghost use Rattle.rule.specs.Places.{seenQualifiers};
-ghost use Rattle.statement.specs.Places.{profileIn, profileOf, seenRule, seenStep};
+ghost use Rattle.statement.specs.Steps.{startAt};
+ghost use Rattle.statement.specs.Places.{Stepped, profileIn, profileOf, seenRule, seenStart, seenStep};
 
 // A rule and where reading goes on, or the refusal.
 pub enum RuleRead {
@@ -63,6 +64,22 @@ fn rule_end(
     }
 }
 
+// The rule with these qualifiers and this pattern, which is not judged.
+fn rule_rest(text: &[u8], profile: usize, q: Qualifiers, token: Token) -> RuleRead
+    ensures { λ r. ⌜ seenRule (now (text .entry)) r ≡ ruleFrom (λ _. 0) (now (text .entry)) (seenQualifiers q) (tokenOf (now (text .entry)) token) ⌝ }
+    ensures profile { λ r. ⌜ profileOf profile r ≡ profile ⌝ }
+{
+    let next = token.next;
+    match rule_tail::perms_at(text, q.deny, next) {
+        PermsRead::Refused(stop) => RuleRead::Refused(stop),
+        PermsRead::Good {
+            perms,
+            transition,
+            next: after,
+        } => rule_end(text, profile, q, token, perms, transition, after),
+    }
+}
+
 // The rule with these qualifiers and this pattern, under the first n variables and their sizes.
 fn rule_from(
     text: &[u8],
@@ -86,15 +103,32 @@ fn rule_from(
             place: start,
         });
     }
-    let next = token.next;
-    match rule_tail::perms_at(text, q.deny, next) {
-        PermsRead::Refused(stop) => RuleRead::Refused(stop),
-        PermsRead::Good {
-            perms,
-            transition,
-            next: after,
-        } => rule_end(text, profile, q, token, perms, transition, after),
+    rule_rest(text, profile, q, token)
+}
+
+// What stands where a rule could start: the } that ends the profile and where reading goes on behind it, the qualifiers of a
+// rule and the token of its pattern, or the refusal.
+pub enum Start {
+    Close { next: Place },
+    Pattern { q: Qualifiers, token: Token },
+    Refused(Stop),
+}
+
+// What stands at a place.
+fn start_at(text: &[u8], at: Place) -> Start
+    ensures { λ r. ⌜ seenStart (now (text .entry)) r ≡ startAt (now (text .entry)) (at .0) ⌝ }
+{
+    if blanks::stands_at(text, at, b"}") {
+        let brace = blanks::standing_at(text, at);
+        let i = brace.0;
+        return Start::Close { next: Place(i + 1) };
     }
+    let q = rule::qualifiers_at(text, at);
+    let token = rule::pattern_at(text, q);
+    let Read::Found(t) = token else {
+        return Start::Refused(stop_of(text, token));
+    };
+    Start::Pattern { q, token: t }
 }
 
 // One rule more, or the } that ends the profile, and where reading goes on, or the refusal.
@@ -104,29 +138,11 @@ pub enum Step {
     Refused(Stop),
 }
 
-// The rule or the } that stands at a place.
-fn rule_here(
-    text: &[u8],
-    vars: &[usize],
-    n: usize,
-    sizes: &[usize; 132],
-    profile: usize,
-    at: Place,
-) -> Step
-    ensures { λ r. ⌜ seenStep (now (text .entry)) r ≡ ruleAt (faultBy (now (text .entry)) (now (vars .entry)) n (now (sizes .entry))) (now (text .entry)) (at .0) ⌝ }
-    ensures profile { λ r. ⌜ profileIn profile r ≡ profile ⌝ }
+// A rule that was read, or its refusal.
+fn step_of(read: RuleRead) -> Step
+    ensures { λ r. ⌜ Stepped read r ⌝ }
 {
-    if blanks::stands_at(text, at, b"}") {
-        let brace = blanks::standing_at(text, at);
-        let i = brace.0;
-        return Step::Close { next: Place(i + 1) };
-    }
-    let q = rule::qualifiers_at(text, at);
-    let token = rule::pattern_at(text, q);
-    let Read::Found(t) = token else {
-        return Step::Refused(stop_of(text, token));
-    };
-    match rule_from(text, vars, n, sizes, profile, q, t) {
+    match read {
         RuleRead::Refused(stop) => Step::Refused(stop),
         RuleRead::Good { rule, next } => Step::Rule { rule, next },
     }
@@ -145,5 +161,24 @@ pub fn rule_at(
     ensures profile { λ r. ⌜ profileIn profile r ≡ profile ⌝ }
 {
     let place = blanks::standing_at(text, at);
-    rule_here(text, vars, n, sizes, profile, place)
+    match start_at(text, place) {
+        Start::Close { next } => Step::Close { next },
+        Start::Refused(stop) => Step::Refused(stop),
+        Start::Pattern { q, token } => {
+            step_of(rule_from(text, vars, n, sizes, profile, q, token))
+        }
+    }
+}
+
+// The rule or the } at a place of a text that was accepted: the rule's pattern is not judged again.
+pub fn rule_again(text: &[u8], profile: usize, at: Place) -> Step
+    ensures { λ r. ⌜ seenStep (now (text .entry)) r ≡ ruleAt (λ _. 0) (now (text .entry)) (at .0) ⌝ }
+    ensures profile { λ r. ⌜ profileIn profile r ≡ profile ⌝ }
+{
+    let place = blanks::standing_at(text, at);
+    match start_at(text, place) {
+        Start::Close { next } => Step::Close { next },
+        Start::Refused(stop) => Step::Refused(stop),
+        Start::Pattern { q, token } => step_of(rule_rest(text, profile, q, token)),
+    }
 }

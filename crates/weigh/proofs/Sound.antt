@@ -107,6 +107,9 @@ perms-few deny s at =
     (λ t. unless-then Few (t .quoted || isWord t (bytes ",")) 4 (t .start) (carriedBy t (wordOf deny (t .content)))
     (λ _. carries-few t (wordOf deny (t .content)) (word-below deny (t .content))))
 
+pub perms-below : (deny : Bool) (s : List ℕ) (at : ℕ) (p : Permissions) → permsAt deny s at ≡ Read p → p .perms .0 < 128
+perms-below deny s at p e = subst (Holds Few) e (perms-few deny s at)
+
 -- ---- a rule
 
 module _ (vs : List Variable) (s : List ℕ) where

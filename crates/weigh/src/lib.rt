@@ -26,7 +26,7 @@ ghost use Rattle.findings.specs.Weighed.{nothing, seenFindings, weighed};
 ghost use Rattle.weigh.specs.Weigh.{Fits, gatheredOf, weighedBy};
 
 // The findings of no rule.
-fn no_findings() -> Findings
+pub fn no_findings() -> Findings
     ensures { λ r. ⌜ ((s : List ℕ) → seenFindings s r ≡ nothing) ⌝ }
 {
     Findings {

@@ -8,21 +8,21 @@ use denote.Ref.{now}
 use lib.ListN.{length, getD, take, drop}
 use lib.ListN.{length-set}
 use lib.Dec.{eqb}
-use Rattle.pattern.specs.Codes.{joinedCodesAfter, joinedCodes}
+use Rattle.pattern.specs.Codes.{joinedCodesAfter}
 use Rattle.codes.proofs.Laws.{next-code, join-turn, kept-le, same-behind, same-code, join-end}
 use Rattle.codes.proofs.join_slashes.Statement.{statement}
 use Rattle.codes.proofs.join_slashes.Tie as tie
 
 abbrev Inv-loop : tie.InvT-loop
-Inv-loop codes₀ count n slash₀ at₀ i₀ codes slash at i =
+Inv-loop codes₀ count slash n after₀ at₀ i₀ codes after at i =
     (at ≤ i)
     × (i ≤ n)
     × (length codes ≡ length codes₀)
     × (drop i codes ≡ drop i codes₀)
-    × (take at codes ++ joinedCodesAfter slash (drop i (take n codes₀)) ≡ joinedCodes (take n codes₀))
+    × (take at codes ++ joinedCodesAfter after (drop i (take n codes₀)) ≡ joinedCodesAfter slash (take n codes₀))
 
 abbrev μ-loop : tie.MeasureT-loop
-μ-loop codes₀ count n slash₀ at₀ i₀ codes slash at i = n - i
+μ-loop codes₀ count slash n after₀ at₀ i₀ codes after at i = n - i
 
 least-requires : tie.Need-least-requires Inv-loop μ-loop
 least-requires c κs = search needs
@@ -48,7 +48,7 @@ kept-requires c κs = search needs
 add-at : tie.Need-add-at Inv-loop μ-loop
 add-at c =
     let p = (c .before .before .before .loop) in
-    omega (arith, kept-le (p .slash && eqb (getD (p .codes) (p .i) 0) 47) (c .kept .result) (c .kept .ensures), c .before .before .before .before .least .ensures)
+    omega (arith, kept-le (p .after && eqb (getD (p .codes) (p .i) 0) 47) (c .kept .result) (c .kept .ensures), c .before .before .before .before .least .ensures)
 
 add-i : tie.Need-add-i Inv-loop μ-loop
 add-i c = search needs
@@ -64,12 +64,12 @@ loop-again c =
     let b = getD (p .codes) (p .i) 0 in
     let k : n ≤ length l = omega (arith, c .before .before .before .before .least .ensures) in
     let same : b ≡ getD l (p .i) 0 = same-code (p .codes) l (p .i) (omega (arith, p .inv .2)) (omega arith) (p .inv .3) in (
-      omega (arith, kept-le (p .slash && eqb b 47) (c .kept .result) (c .kept .ensures)),
+      omega (arith, kept-le (p .after && eqb b 47) (c .kept .result) (c .kept .ensures)),
       omega arith,
       simp length-set (p .inv .2),
       same-behind (p .codes) l (p .i) (p .at) b (p .inv .0) (p .inv .3),
-      join-turn (p .codes) (drop (p .i + 1) (take n l)) b (p .at) (c .kept .result) (p .slash) (omega (arith, p .inv .2)) (c .kept .ensures)
-          ∙ ap (λ (s : List ℕ). take (p .at) (p .codes) ++ joinedCodesAfter (p .slash) s)
+      join-turn (p .codes) (drop (p .i + 1) (take n l)) b (p .at) (c .kept .result) (p .after) (omega (arith, p .inv .2)) (c .kept .ensures)
+          ∙ ap (λ (s : List ℕ). take (p .at) (p .codes) ++ joinedCodesAfter (p .after) s)
           (ap (λ (x : ℕ). x ∷ drop (p .i + 1) (take n l)) same ∙ sym (next-code l n (p .i) (omega arith) k))
           ∙ p .inv .4,
     )
@@ -81,7 +81,7 @@ returns : tie.Need-returns Inv-loop μ-loop
 returns c =
     let p = (c .before .loop) in
     let e : p .i ≡ c .before .before .least .result = omega arith in
-    join-end (c .before .before .before .before .args .count) (c .before .before .least .result) (p .at) (now (c .before .before .before .before .args .codes)) (p .codes) (p .slash) (c .before .before .least .ensures) (omega arith) (p .inv .2)
+    join-end (c .before .before .before .before .args .count) (c .before .before .least .result) (p .at) (now (c .before .before .before .before .args .codes)) (p .codes) (c .before .before .before .before .args .slash) (p .after) (c .before .before .least .ensures) (omega arith) (p .inv .2)
     (rw e at (p .inv .3)) (rw e at (p .inv .4))
 
 pub join-slashes-spec : {M : Type 1} → statement M

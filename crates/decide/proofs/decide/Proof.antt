@@ -1,5 +1,6 @@
 use denote.Ref.{now}
 use mathlib.Core.Path.{sym, _∙_}
+use Rattle.profile.specs.Profiles.{fileOf}
 use Rattle.decide.proofs.Laws.{answer-accepted, answer-asked, answer-long, answer-path, answer-rejected, good-fits}
 use borrow.Author.Needs.{needs}
 use Rattle.decide.proofs.decide.Statement.{statement}
@@ -48,6 +49,7 @@ refused-requires-4 : tie.Need-refused-requires-4
 refused-requires-4 c κs = search needs
 
 returns-4 : tie.Need-returns-4
+unfolding fileOf
 returns-4 c =
     let c-read = c .before .before .before .read in
     let c-if3 = c .before .before .before .before .before .if3 in
@@ -65,9 +67,10 @@ answer-in-requires c κs =
     let c-is-bad-path = c .before .before .before .before .before .before .before .before .before .before .is-bad-path in
     let c-if1 = c .before .before .before .before .before .before .before .before .before .before .before .if1 in
     let c-args = c .before .before .before .before .before .before .before .before .before .before .before .before .before .before .before .args in
-    (c-read .ensures .1, record { short = c-if1 .left; fits = good-fits (now (c-args .path)) (sym (c-is-bad-path .ensures) ∙ c-if2 .left) })
+    (c-read .ensures .1 .few, record { short = c-if1 .left; fits = good-fits (now (c-args .path)) (sym (c-is-bad-path .ensures) ∙ c-if2 .left) })
 
 returns-5 : tie.Need-returns-5
+unfolding fileOf
 returns-5 c =
     let c-if4 = c .before .before .before .before .if4 in
     let c-read = c .before .before .before .before .before .before .read in

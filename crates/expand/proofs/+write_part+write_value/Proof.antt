@@ -3,17 +3,19 @@ use native.Mathlib.Omega.{arith}
 use denote.Ref.{now}
 use mathlib.Core.Path.{_≡_, sym, ap, _∙_}
 use Prim.Native.Nat.{_+_, _-_, _*_, _≤_, ℕ, _<_, min}
-use mathlib.Core.List.{List}
+use mathlib.Core.List.{List, map}
 use lib.ListN.{length, drop}
 use Rattle.scan.specs.Bytes.{span}
-use Rattle.pattern.specs.Pieces.{parts}
+use Rattle.scan.proofs.Laws.{run-inside}
+use Rattle.pattern.specs.Pieces.{Byte, parts}
+use Rattle.pattern.specs.Literals.{ordinary}
 use Rattle.pattern.specs.Places.{partAt}
 use Rattle.pattern.specs.Reads.{codeOf, seenPart}
 use Rattle.pattern.specs.Expansions.{ofParts}
 use Rattle.pattern.proofs.Laws.{partEnd-le, partEnd-more}
 use Rattle.sizes.specs.Numbered.{numbering, nameBy, partBy, valueBy}
 use Rattle.sizes.proofs.Steps.{parts-next, parts-last}
-use Rattle.expand.proofs.Laws.{wrote-nil, Writing, writing-none, writing-turn, writing-all, named-le, named-none, named-some}
+use Rattle.expand.proofs.Laws.{wrote-nil, Writing, writing-none, writing-turn, writing-more, writing-all, parts-behind, named-le, named-none, named-some}
 use borrow.Author.Tests.{lt-ltb}
 use borrow.Fn.Kinds.{In}
 use borrow.Fn.PlainCycle.{Measures, is, falls, and}
@@ -32,6 +34,8 @@ use Rattle.expand.proofs.push.Reads as push-reads
 use Rattle.variables.proofs.named.Reads as named-reads
 use Rattle.parts.proofs.part_at.Reads as part-at-reads
 use Rattle.ends.proofs.part_end.Reads as part-end-reads
+use Rattle.ends.proofs.literal_end.Reads as literal-end-reads
+use Rattle.expand.proofs.push_run.Reads as push-run-reads
 use Rattle.parts.proofs.piece_code.Reads as piece-code-reads
 use Rattle.scan.proofs.span.Reads as span-reads
 use Rattle.measure.proofs.part_size.Reads as part-size-reads
@@ -89,6 +93,10 @@ value-claims t = (
   high-reads.Learnt,
   part-end-reads.Asked,
   part-end-reads.Learnt,
+  literal-end-reads.Asked,
+  literal-end-reads.Learnt,
+  push-run-reads.Asked,
+  push-run-reads.Learnt,
 )
 
 write-part-enum-known-p : (t : ℕ) → write-part-lts.Need-enum-known-p (part-claims t) (write-part-at t) write-part.Post
@@ -202,28 +210,44 @@ write-value-high-requires t c κs = search needs
 write-value-part-end-requires : (t : ℕ) → write-value-lts.Need-part-end-requires (value-claims t) (write-value-at t) write-value.Post write-value-Inv-loop write-value-μ-loop
 write-value-part-end-requires t c κs = search needs
 
+write-value-literal-end-requires : (t : ℕ) → write-value-lts.Need-literal-end-requires (value-claims t) (write-value-at t) write-value.Post write-value-Inv-loop write-value-μ-loop
+write-value-literal-end-requires t c κs = search needs
+
+write-value-push-run-requires : (t : ℕ) → write-value-lts.Need-push-run-requires (value-claims t) (write-value-at t) write-value.Post write-value-Inv-loop write-value-μ-loop
+write-value-push-run-requires t c κs =
+    let s = now (c .before .before .before .before .before .before .before .before .before .before .before .before .before .span .result) in
+    let at = c .before .before .before .before .before .before .before .before .before .before .before .before .loop .at in
+    let w = c .before .before .before .before .before .before .write-part in
+    let h : c .before .before .part-end .result ≤ length s = omega (arith, c .before .before .part-end .ensures, partEnd-le s at) in
+    (omega (arith, w .ensures .size, w .ensures .fits), omega (arith, c .before .literal-end .ensures, run-inside ordinary s (c .before .before .part-end .result) h))
+
 write-value-loop-less : (t : ℕ) → write-value-lts.Need-loop-less (value-claims t) (write-value-at t) write-value.Post write-value-Inv-loop write-value-μ-loop
 write-value-loop-less t c =
-    let c-span = c .before .before .before .before .before .before .before .before .before .before .before .span in
-    let c-loop = c .before .before .before .before .before .before .before .before .before .before .loop in
-    omega (arith, c .part-end .ensures, partEnd-le (now (c-span .result)) (c-loop .at), partEnd-more (now (c-span .result)) (c-loop .at) (search needs))
+    let s = now (c .before .before .before .before .before .before .before .before .before .before .before .before .before .before .before .before .span .result) in
+    let at = c .before .before .before .before .before .before .before .before .before .before .before .before .before .before .before .loop .at in
+    let h : c .before .before .before .before .before .part-end .result ≤ length s = omega (arith, c .before .before .before .before .before .part-end .ensures, partEnd-le s at) in
+    omega (arith, c .before .before .before .before .literal-end .ensures, run-inside ordinary s (c .before .before .before .before .before .part-end .result) h, c .before .before .before .before .before .part-end .ensures, partEnd-more s at (c .before .before .before .before .before .before .before .before .before .before .before .before .before .before .loop-test .taken))
 
 write-value-loop-again : (t : ℕ) → write-value-lts.Need-loop-again (value-claims t) (write-value-at t) write-value.Post write-value-Inv-loop write-value-μ-loop
 write-value-loop-again t c =
-    let c-loop = c .before .before .before .before .before .before .before .before .before .before .loop in
-    let c-args = c .before .before .before .before .before .before .before .before .before .before .before .before .before .before .before .args in
-    let c-part-at = c .before .before .before .before .before .before .before .before .part-at in
-    let c-part-end = c .part-end in
-    let c-span = c .before .before .before .before .before .before .before .before .before .before .before .span in
+    let c-loop = c .before .before .before .before .before .before .before .before .before .before .before .before .before .before .before .loop in
+    let c-args = c .before .before .before .before .before .before .before .before .before .before .before .before .before .before .before .before .before .before .before .before .args in
+    let c-part-at = c .before .before .before .before .before .before .before .before .before .before .before .before .before .part-at in
+    let c-part-end = c .before .before .before .before .before .part-end in
+    let c-span = c .before .before .before .before .before .before .before .before .before .before .before .before .before .before .before .before .span in
+    let c-high = c .before .before .before .before .before .before .high in
+    let c-literal-end = c .before .before .before .before .literal-end in
     let text = now (c-args .text) in
     let vars = now (c-args .vars) in
     let table = now (c-args .sizes) in
     let s = now (c-span .result) in
     let names = nameBy text vars table (min 32 (c-args .n)) in
     let p = seenPart text (c-part-at .result) in
-    writing-turn _ (partBy text vars (c-args .n) table p) (ofParts numbering names (parts 0 (drop (c-part-end .result) s))) (c-loop .inv)
-    (parts-next numbering names s (c-loop .at) p (c-part-end .result) (search needs) (c-part-at .ensures .is ∙ ap (λ (l : List ℕ). partAt l (c-loop .at)) (sym (c-span .ensures))) (c-part-end .ensures))
-    (c .before .before .before .before .before .before .before .part-size .ensures) (c .before .before .before .before .before .before .low .ensures) (c .before .high .ensures) (c .before .before .before .before .write-part .ensures)
+    writing-more (map Byte (span s (c-part-end .result) (c-literal-end .result)))
+    (writing-turn _ (partBy text vars (c-args .n) table p) (ofParts numbering names (parts 0 (drop (c-part-end .result) s))) (c-loop .inv)
+    (parts-next numbering names s (c-loop .at) p (c-part-end .result) (c .before .before .before .before .before .before .before .before .before .before .before .before .before .before .loop-test .taken) (c-part-at .ensures .is ∙ ap (λ (l : List ℕ). partAt l (c-loop .at)) (sym (c-span .ensures))) (c-part-end .ensures))
+    (c .before .before .before .before .before .before .before .before .before .before .before .before .part-size .ensures) (c .before .before .before .before .before .before .before .before .before .before .before .low .ensures) (c-high .ensures) (c .before .before .before .before .before .before .before .before .before .write-part .ensures))
+    (parts-behind names (c-high .result) s (c-part-end .result) (c-literal-end .result) (c-literal-end .ensures)) (c .before .before .push-run .ensures text)
 
 write-value-same-length : (t : ℕ) → write-value-lts.Need-same-length (value-claims t) (write-value-at t) write-value.Post write-value-Inv-loop write-value-μ-loop
 write-value-same-length t c = search needs
@@ -268,6 +292,8 @@ pub +write-part+write-value-spec : {M : Type 1} → statement M
     (write-value-write-part-requires t)
     (write-value-high-requires t)
     (write-value-part-end-requires t)
+    (write-value-literal-end-requires t)
+    (write-value-push-run-requires t)
     (write-value-loop-less t)
     (write-value-loop-again t)
     (write-value-same-length t)

@@ -30,38 +30,38 @@ returns c =
     let e = c .before .before .before .shared-front .ensures in
     sym (shared-dead (now (a .text)) (now (a .codes)) (now (a .path)) (λ k. omega (arith, c .before .before .before .before .shared-slice-known3 .given k)) (rw (← e) (c .before .before .if1 .taken)) (rw (← e) (c .if2 .taken)))
 
-mul-walk-marks : tie.Need-mul-walk-marks
-mul-walk-marks c = search needs
+mul-walk-back : tie.Need-mul-walk-back
+mul-walk-back c = search needs
 
-sub-walk-marks : tie.Need-sub-walk-marks
-sub-walk-marks c = search needs
+sub-walk-back : tie.Need-sub-walk-back
+sub-walk-back c = search needs
 
-part-walk-marks-start : tie.Need-part-walk-marks-start
-part-walk-marks-start c = search needs
+part-walk-back-start : tie.Need-part-walk-back-start
+part-walk-back-start c = search needs
 
-part-walk-marks-end : tie.Need-part-walk-marks-end
-part-walk-marks-end c = search needs
+part-walk-back-end : tie.Need-part-walk-back-end
+part-walk-back-end c = search needs
 
-sub-walk-marks-2 : tie.Need-sub-walk-marks-2
-sub-walk-marks-2 c = omega (arith, c .before .before .before .before .shared-front .ensures, shared-le (now (c .before .before .before .before .before .before .before .before .args .codes)) (now (c .before .before .before .before .before .before .before .before .args .path)))
+sub-walk-back-2 : tie.Need-sub-walk-back-2
+sub-walk-back-2 c = omega (arith, c .before .before .before .before .shared-front .ensures, shared-le (now (c .before .before .before .before .before .before .before .before .args .codes)) (now (c .before .before .before .before .before .before .before .before .args .path)) .1)
 
-part-walk-marks-start-2 : tie.Need-part-walk-marks-start-2
-part-walk-marks-start-2 c =
-    let h : _ = shared-le (now (c .before .before .before .before .before .before .before .before .args .codes)) (now (c .before .before .before .before .before .before .before .before .args .path)) in
+part-walk-back-start-2 : tie.Need-part-walk-back-start-2
+part-walk-back-start-2 c =
+    let h : _ = shared-le (now (c .before .before .before .before .before .before .before .before .args .codes)) (now (c .before .before .before .before .before .before .before .before .args .path)) .1 in
     search needs
 
-part-walk-marks-end-2 : tie.Need-part-walk-marks-end-2
-part-walk-marks-end-2 c = search needs
+part-walk-back-end-2 : tie.Need-part-walk-back-end-2
+part-walk-back-end-2 c = search needs
 
-walk-marks-requires : tie.Need-walk-marks-requires
-walk-marks-requires c κs = search needs
+walk-back-requires : tie.Need-walk-back-requires
+walk-back-requires c κs = search needs
 
 returns-2 : tie.Need-returns-2
 returns-2 c =
     let a = c .before .before .before .before .before .before .before .before .before .before .args in
     let n = c .before .before .before .before .before .before .shared-front .result in
     let e = c .before .before .before .before .before .before .shared-front .ensures in
-    c .walk-marks .ensures ∙ ap₂ matches (ap (map (decode (now (a .text)))) (behind (now (a .codes)) n)) (behind (now (a .path)) n)
+    c .walk-back .ensures ∙ ap₂ matches (ap (map (decode (now (a .text)))) (behind (now (a .codes)) n)) (behind (now (a .path)) n)
     ∙ rw e (sym (shared-left (now (a .text)) (now (a .codes)) (now (a .path)) (λ k. omega (arith, c .before .before .before .before .before .before .before .shared-slice-known3 .given k))))
 
 returns-3 : tie.Need-returns-3
@@ -78,13 +78,13 @@ walk-spec =
     mul-if2
     shared-slice-read-if2
     returns
-    mul-walk-marks
-    sub-walk-marks
-    part-walk-marks-start
-    part-walk-marks-end
-    sub-walk-marks-2
-    part-walk-marks-start-2
-    part-walk-marks-end-2
-    walk-marks-requires
+    mul-walk-back
+    sub-walk-back
+    part-walk-back-start
+    part-walk-back-end
+    sub-walk-back-2
+    part-walk-back-start-2
+    part-walk-back-end-2
+    walk-back-requires
     returns-2
     returns-3)

@@ -1,21 +1,20 @@
 use borrow.Author.Needs.{needs}
 use native.Mathlib.Omega.{arith}
 use denote.Ref.{now}
-use Prim.Native.Nat.{_≤_, _<_, _-_}
-use mathlib.Core.Path.{_≡_, sym, _∙_}
-use mathlib.Core.List.{[]}
+use Prim.Native.Nat.{_<_, _-_}
+use mathlib.Core.Path.{refl, sym, _∙_}
 use Rattle.pattern.specs.Table.{env}
-use Rattle.profile.specs.Profiles.{profilesAt}
 use Rattle.profile.specs.Places.{seenProfiles}
-use Rattle.profile.proofs.Laws.{read-end, read-none, readFrom, turn-left, turn-more, turn-refused, turn-room}
+use Rattle.profile.proofs.Laws.{SoFar, kept-end, kept-refused, more, read-end, start, turn-left, turn-refused, turn-room}
 use Rattle.profile.proofs.profiles_at.Statement.{statement}
 use Rattle.profile.proofs.profiles_at.Tie as tie
 
 abbrev Inv-loop : tie.InvT-loop
-Inv-loop text vars n sizes profiles₀ place₀ left₀ profiles place left = (profiles .count ≤ 32) × (readFrom (env text vars n) text profiles left (place .0) ≡ profilesAt 32 512 [] (env text vars n) text (place₀ .0))
+Inv-loop text vars n sizes allowed profiles₀ place₀ left₀ profiles place left =
+    SoFar (env text vars n) text allowed (place₀ .0) profiles left (place .0)
 
 abbrev μ-loop : tie.MeasureT-loop
-μ-loop text vars n sizes profiles₀ place₀ left₀ profiles place left = 32 - profiles .count
+μ-loop text vars n sizes allowed profiles₀ place₀ left₀ profiles place left = 32 - profiles .count
 
 no-profiles-requires : tie.Need-no-profiles-requires Inv-loop μ-loop
 no-profiles-requires c κs = search needs
@@ -25,10 +24,13 @@ loop-holds c =
     let c-args = c .before .before .before .args in
     let s = now (c-args .text) in
     let vs = env s (now (c-args .vars)) (c-args .n) in
-    (omega (arith, c .no-profiles .ensures), read-none vs s (c .no-profiles .result) 512 (c-args .at .0) (c .no-profiles .ensures))
+    start vs s (c-args .allowed) (c-args .at .0) (c .no-profiles .result) (c .no-profiles .ensures)
 
 ends-at-requires : tie.Need-ends-at-requires Inv-loop μ-loop
 ends-at-requires c κs = search needs
+
+sub-t21 : tie.Need-sub-t21 Inv-loop μ-loop
+sub-t21 c = omega (arith, c .before .before .loop .inv .rules)
 
 returns : tie.Need-returns Inv-loop μ-loop
 unfolding seenProfiles
@@ -37,7 +39,7 @@ returns c =
     let c-args = c .before .before .before .before .before .before .args in
     let s = now (c-args .text) in
     let vs = env s (now (c-args .vars)) (c-args .n) in
-    (sym (read-end vs s (c-loop .profiles) (c-loop .left) (c-loop .place .0) (sym (c .before .ends-at .ensures) ∙ c .if1 .taken)) ∙ c-loop .inv .1, c-loop .inv .0)
+    (sym (read-end vs s (c-loop .profiles) (c-loop .left) (c-loop .place .0) (sym (c .before .ends-at .ensures) ∙ c .if1 .taken)) ∙ c-loop .inv .read, kept-end vs s (c-args .allowed) (c-args .at .0) (c-loop .profiles) (c-loop .left) (c-loop .place .0) (c-loop .inv) _ refl refl refl)
 
 profile-at-requires : tie.Need-profile-at-requires Inv-loop μ-loop
 profile-at-requires c κs = (search needs, search needs)
@@ -52,7 +54,7 @@ with-profile-requires c κs =
     let c-args = c .before .before .before .before .before .before .before .before .before .before .before .before .args in
     let s = now (c-args .text) in
     let vs = env s (now (c-args .vars)) (c-args .n) in
-    turn-room vs s (c-loop .profiles) (c-loop .left) (c-loop .place .0) (c-loop .inv .0) (c-profile-at .result) (c-profile-at .ensures) (c .before .r .given .0 .0) (c .before .r .given .0 .1 .0) (c .before .r .given .0 .1 .1 .0) (c .before .r .given .0 .1 .1 .1 .0) (c .before .r .given .1)
+    turn-room vs s (c-loop .profiles) (c-loop .left) (c-loop .place .0) (c-loop .inv .low) (c-profile-at .result) (c-profile-at .ensures) (c .before .r .given .0 .0) (c .before .r .given .0 .1 .0) (c .before .r .given .0 .1 .1 .0) (c .before .r .given .0 .1 .1 .1 .0) (c .before .r .given .1)
 
 sub-left : tie.Need-sub-left Inv-loop μ-loop
 sub-left c =
@@ -62,7 +64,7 @@ sub-left c =
     let c-args = c .before .before .before .before .before .before .before .before .before .before .before .before .before .args in
     let s = now (c-args .text) in
     let vs = env s (now (c-args .vars)) (c-args .n) in
-    turn-left vs s (c-loop .profiles) (c-loop .left) (c-loop .place .0) (c-loop .inv .0) (c-profile-at .result) (c-profile-at .ensures) (c-r .given .0 .0) (c-r .given .0 .1 .0) (c-r .given .0 .1 .1 .0) (c-r .given .0 .1 .1 .1 .0) (c-r .given .1)
+    turn-left vs s (c-loop .profiles) (c-loop .left) (c-loop .place .0) (c-loop .inv .low) (c-profile-at .result) (c-profile-at .ensures) (c-r .given .0 .0) (c-r .given .0 .1 .0) (c-r .given .0 .1 .1 .0) (c-r .given .0 .1 .1 .1 .0) (c-r .given .1)
 
 loop-less : tie.Need-loop-less Inv-loop μ-loop
 loop-less c =
@@ -72,7 +74,7 @@ loop-less c =
     let c-args = c .before .before .before .before .before .before .before .before .before .before .before .before .before .args in
     let s = now (c-args .text) in
     let vs = env s (now (c-args .vars)) (c-args .n) in
-    let h : c-loop .profiles .count < 32 = turn-room vs s (c-loop .profiles) (c-loop .left) (c-loop .place .0) (c-loop .inv .0) (c-profile-at .result) (c-profile-at .ensures) (c-r .given .0 .0) (c-r .given .0 .1 .0) (c-r .given .0 .1 .1 .0) (c-r .given .0 .1 .1 .1 .0) (c-r .given .1) in
+    let h : c-loop .profiles .count < 32 = turn-room vs s (c-loop .profiles) (c-loop .left) (c-loop .place .0) (c-loop .inv .low) (c-profile-at .result) (c-profile-at .ensures) (c-r .given .0 .0) (c-r .given .0 .1 .0) (c-r .given .0 .1 .1 .0) (c-r .given .0 .1 .1 .1 .0) (c-r .given .1) in
     omega (arith, c .with-profile .ensures .count)
 
 loop-again : tie.Need-loop-again Inv-loop μ-loop
@@ -85,8 +87,7 @@ loop-again c =
     let c-args = c .before .before .before .before .before .before .before .before .before .before .before .before .before .args in
     let s = now (c-args .text) in
     let vs = env s (now (c-args .vars)) (c-args .n) in
-    let h : c-loop .profiles .count < 32 = turn-room vs s (c-loop .profiles) (c-loop .left) (c-loop .place .0) (c-loop .inv .0) (c-profile-at .result) (c-profile-at .ensures) (c-r .given .0 .0) (c-r .given .0 .1 .0) (c-r .given .0 .1 .1 .0) (c-r .given .0 .1 .1 .1 .0) (c-r .given .1) in
-    (omega (arith, c .with-profile .ensures .count), sym (turn-more vs s (c-loop .profiles) (c-loop .left) (c-loop .place .0) (c-loop .inv .0) (c-profile-at .result) (c-profile-at .ensures) (c-r .given .0 .0) (c-r .given .0 .1 .0) (c-r .given .0 .1 .1 .0) (c-r .given .0 .1 .1 .1 .0) (c-r .given .1) (sym (c-ends-at .ensures) ∙ c-if1 .left) (c .with-profile .ensures)) ∙ c-loop .inv .1)
+    more vs s (c-args .allowed) (c-args .at .0) (c-loop .profiles) (c-loop .left) (c-loop .place .0) (c-loop .inv) (c-profile-at .result) (c-profile-at .ensures) (c-r .given .0 .0) (c-r .given .0 .1 .0) (c-r .given .0 .1 .1 .0) (c-r .given .0 .1 .1 .1 .0) (c-r .given .1) (sym (c-ends-at .ensures) ∙ c-if1 .left) (c .with-profile .ensures)
 
 enum-known-r-2 : tie.Need-enum-known-r-2 Inv-loop μ-loop
 enum-known-r-2 c = search needs
@@ -101,7 +102,7 @@ returns-2 c =
     let c-args = c .before .before .before .before .before .before .before .before .before .before .before .before .args in
     let s = now (c-args .text) in
     let vs = env s (now (c-args .vars)) (c-args .n) in
-    (sym (turn-refused vs s (c-loop .profiles) (c-loop .left) (c-loop .place .0) (c-loop .inv .0) (c-profile-at .result) (c-profile-at .ensures) (sym (c-ends-at .ensures) ∙ c-if1 .left) (c .before .r2 .given .0 .0) (c .before .r2 .given .1)) ∙ c-loop .inv .1, c-loop .inv .0)
+    (sym (turn-refused vs s (c-loop .profiles) (c-loop .left) (c-loop .place .0) (c-loop .inv .low) (c-profile-at .result) (c-profile-at .ensures) (sym (c-ends-at .ensures) ∙ c-if1 .left) (c .before .r2 .given .0 .0) (c .before .r2 .given .1)) ∙ c-loop .inv .read, kept-refused vs s (c-args .allowed) (c-args .at .0) (c-loop .profiles) (c-loop .left) (c-loop .place .0) (c-loop .inv) _ refl refl refl)
 
 pub profiles-at-spec : {M : Type 1} → statement M
 profiles-at-spec =
@@ -112,6 +113,7 @@ profiles-at-spec =
     no-profiles-requires
     loop-holds
     ends-at-requires
+    sub-t21
     returns
     profile-at-requires
     enum-known-r

@@ -1,7 +1,9 @@
 use denote.Ref.{now}
-use native.Mathlib.Omega.{arith}
+use mathlib.Core.Path.{refl}
+use Rattle.pattern.specs.Table.{env}
 use Rattle.preamble.proofs.Laws.{seen-read, seen-refused}
 use Rattle.profile.specs.Places.{profilesOf, seenProfiles}
+use Rattle.profile.proofs.Laws.{kept-refused, start}
 use borrow.Author.Needs.{needs}
 use Rattle.profile.proofs.profiles_of.Statement.{statement}
 use Rattle.profile.proofs.profiles_of.Tie as tie
@@ -13,7 +15,11 @@ returns : tie.Need-returns
 unfolding profilesOf seenProfiles
 returns c =
     let c-args = c .before .before .before .before .before .before .args in
-    (rw (seen-refused (now (c-args .text)) (now (c-args .vars)) (c-args .p) (c .before .if1 .taken)), omega (arith, c .no-profiles .ensures))
+    let s = now (c-args .text) in
+    let vs = env s (now (c-args .vars)) (c-args .p .count) in
+    let none = c .no-profiles .result in
+    let n = c-args .allowed in
+    (rw (seen-refused s (now (c-args .vars)) (c-args .p) (c .before .if1 .taken)), kept-refused vs s n 0 none n 0 (start vs s n 0 none (c .no-profiles .ensures)) _ refl refl refl)
 
 profiles-at-requires : tie.Need-profiles-at-requires
 profiles-at-requires c κs = search needs

@@ -1,6 +1,6 @@
 use denote.Ref.{now}
 use mathlib.Core.Path.{refl}
-use Rattle.profile.proofs.Laws.{file-read}
+use Rattle.profile.proofs.Laws.{file-kept, file-read}
 use borrow.Author.Needs.{needs}
 use Rattle.profile.proofs.read.Statement.{statement}
 use Rattle.profile.proofs.read.Tie as tie
@@ -11,6 +11,9 @@ preamble-at-requires c κs = search needs
 sizes-of-requires : tie.Need-sizes-of-requires
 sizes-of-requires c κs = search needs
 
+least-requires : tie.Need-least-requires
+least-requires c κs = search needs
+
 profiles-of-requires : tie.Need-profiles-of-requires
 profiles-of-requires c κs = search needs
 
@@ -20,11 +23,21 @@ line-of-requires c κs = search needs
 returns : tie.Need-returns
 returns c =
     let c-profiles-of = c .before .before .before .before .profiles-of in
-    let c-preamble-at = c .before .before .before .before .before .before .before .before .before .before .before .before .preamble-at in
-    let c-args = c .before .before .before .before .before .before .before .before .before .before .before .before .before .before .before .args in
-    (file-read (now (c-args .text)) _ (c-preamble-at .result) (c-profiles-of .result) _ (c-preamble-at .ensures) (c-profiles-of .ensures .0) refl refl refl (c .line-of .ensures) refl refl, c-profiles-of .ensures .1)
+    let c-least = c .before .before .before .before .before .least in
+    let c-preamble-at = c .before .before .before .before .before .before .before .before .before .before .before .before .before .preamble-at in
+    let s = now (c .before .before .before .before .before .before .before .before .before .before .before .before .before .before .before .before .args .text) in
+    rw (← c-least .ensures) (
+      file-read (c-least .result) s _ (c-preamble-at .result) (c-profiles-of .result) (c-preamble-at .ensures) (c-profiles-of .ensures .0) _ refl refl refl (c .line-of .ensures) refl refl,
+      file-kept (c-least .result) s _ (c-preamble-at .result) (c-profiles-of .result) (c-preamble-at .ensures) (c-profiles-of .ensures .0) _ refl (c-profiles-of .ensures .1) refl refl refl,
+    )
 
 pub read-spec : {M : Type 1} → statement M
 read-spec =
     tie.close
-    (tie.spec preamble-at-requires sizes-of-requires profiles-of-requires line-of-requires returns)
+    (tie.spec
+    preamble-at-requires
+    sizes-of-requires
+    least-requires
+    profiles-of-requires
+    line-of-requires
+    returns)

@@ -1,6 +1,9 @@
 use denote.Ref.{now}
+use mathlib.Core.Path.{refl, ap, _∙_}
 use Rattle.faults.specs.Sized.{faultBy}
-use Rattle.statement.proofs.Laws.{rule-standing}
+use Rattle.statement.specs.Steps.{stepBy}
+use Rattle.statement.specs.Places.{seenStep}
+use Rattle.statement.proofs.Laws.{by-close, by-refused, by-rule}
 use borrow.Author.Needs.{needs}
 use Rattle.statement.proofs.rule_at.Statement.{statement}
 use Rattle.statement.proofs.rule_at.Tie as tie
@@ -8,13 +11,59 @@ use Rattle.statement.proofs.rule_at.Tie as tie
 standing-at-requires : tie.Need-standing-at-requires
 standing-at-requires c κs = search needs
 
-rule-here-requires : tie.Need-rule-here-requires
-rule-here-requires c κs = search needs
+start-at-requires : tie.Need-start-at-requires
+start-at-requires c κs = search needs
+
+enum-known-next : tie.Need-enum-known-next
+enum-known-next c = search needs
+
+enum-known-stop : tie.Need-enum-known-stop
+enum-known-stop c = search needs
+
+enum-known-q : tie.Need-enum-known-q
+enum-known-q c = search needs
+
+rule-from-requires : tie.Need-rule-from-requires
+rule-from-requires c κs = search needs
+
+step-of-requires : tie.Need-step-of-requires
+step-of-requires c κs = search needs
 
 returns : tie.Need-returns
+unfolding seenStep
 returns c =
-    let a = (c .before .before .before .before .args) in
-    (rw (← rule-standing (faultBy (now (a .text)) (now (a .vars)) (a .n) (now (a .sizes))) (now (a .text)) (a .at .0), ← c .before .standing-at .ensures) (c .rule-here .ensures .0), c .rule-here .ensures .1)
+    let a = c .before .before .before .before .before .before .before .args in
+    let s = now (a .text) in
+    (by-close (faultBy s (now (a .vars)) (a .n) (now (a .sizes))) s (a .at .0) (c .before .before .before .before .standing-at .ensures) (c .before .before .before .start-at .ensures) (c .before .next .given .1), refl)
+
+returns-2 : tie.Need-returns-2
+unfolding seenStep
+returns-2 c =
+    let a = c .before .before .before .before .before .before .before .args in
+    let s = now (a .text) in
+    (by-refused (faultBy s (now (a .vars)) (a .n) (now (a .sizes))) s (a .at .0) (c .before .before .before .before .standing-at .ensures) (c .before .before .before .start-at .ensures) (c .before .stop .given .1), refl)
+
+returns-3 : tie.Need-returns-3
+returns-3 c =
+    let a = c .before .before .before .before .before .before .before .before .before .args in
+    let s = now (a .text) in (
+      c .step-of .ensures .is s
+          ∙ ap stepBy (c .before .rule-from .ensures .0)
+          ∙ by-rule (faultBy s (now (a .vars)) (a .n) (now (a .sizes))) s (a .at .0) (c .before .before .before .before .before .before .standing-at .ensures) (c .before .before .before .before .before .start-at .ensures) (c .before .before .before .q .given .1),
+      c .step-of .ensures .profile (a .profile) ∙ c .before .rule-from .ensures .1,
+    )
 
 pub rule-at-spec : {M : Type 1} → statement M
-rule-at-spec = tie.close (tie.spec standing-at-requires rule-here-requires returns)
+rule-at-spec =
+    tie.close
+    (tie.spec
+    standing-at-requires
+    start-at-requires
+    enum-known-next
+    enum-known-stop
+    enum-known-q
+    rule-from-requires
+    step-of-requires
+    returns
+    returns-2
+    returns-3)

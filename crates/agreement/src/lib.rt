@@ -1,0 +1,1 @@
+// Theorems: asking what was read answers as the text does; no code.

@@ -1,0 +1,18 @@
+use borrow.Author.Needs.{needs}
+use Rattle.broker.proofs.as_answer.Statement.{statement}
+use Rattle.broker.proofs.as_answer.Tie as tie
+
+refused-requires : tie.Need-refused-requires
+refused-requires c κs = search needs
+
+returns : tie.Need-returns
+returns c = rw (c .before .if1 .taken) (c .refused .ensures)
+
+refused-requires-2 : tie.Need-refused-requires-2
+refused-requires-2 c κs = search needs
+
+returns-2 : tie.Need-returns-2
+returns-2 c = rw (c .before .if1 .left) (c .refused2 .ensures)
+
+pub as-answer-spec : {M : Type 1} → statement M
+as-answer-spec = tie.close (tie.spec refused-requires returns refused-requires-2 returns-2)

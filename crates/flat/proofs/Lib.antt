@@ -1,0 +1,4 @@
+pub mod Round
+pub mod Walk
+pub mod Head
+pub mod Filling

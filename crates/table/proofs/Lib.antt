@@ -1,0 +1,4 @@
+pub mod Records
+pub mod Rows
+pub mod Laws
+pub mod Filling
