@@ -76,7 +76,47 @@ enum {
  * It allocates nothing. */
 enum { SIDLUQETHE_STACK_BYTES = 49152 };
 
-/* Writes the answer to a request into the buffer and returns SIDLUQETHE_ANSWER_BYTES. A buffer of fewer bytes
+/* ---- Read once, ask often.
+ *
+ * The caller lends memory for what is read of a text: SIDLUQETHE_HEAD_WORDS words, and SIDLUQETHE_RULE_WORDS for each rule.
+ * SIDLUQETHE_MEMORY_WORDS are enough for every text. The words are places in the text, counts and sets; they hold no pointers, so
+ * memory may be moved and copied. Asking only reads it: threads may share it. */
+enum {
+    SIDLUQETHE_HEAD_WORDS = 1256,
+    SIDLUQETHE_RULE_WORDS = 12,
+    SIDLUQETHE_RULES = 512,
+    SIDLUQETHE_MEMORY_WORDS = SIDLUQETHE_HEAD_WORDS + SIDLUQETHE_RULES * SIDLUQETHE_RULE_WORDS
+};
+
+/* What may be read of memory that a text has filled: the name of profile i is the text from memory[SIDLUQETHE_AT_PROFILES + 4 * i]
+ * to before memory[SIDLUQETHE_AT_PROFILES + 4 * i + 1]. */
+enum {
+    SIDLUQETHE_AT_PROFILES = 1120,
+    SIDLUQETHE_AT_PROFILE_COUNT = 1249,
+    SIDLUQETHE_AT_RULE_COUNT = 1250
+};
+
+/* Reads a text into memory and returns SIDLUQETHE_ANSWER_BYTES. The buffer then holds an answer: its refusal and line say why the
+ * text is refused, or are 0 where it is accepted; nothing is granted. A text that is refused leaves memory as it was. With room for
+ * fewer rules than the text has, it is refused 9 at the pattern of the first rule that finds none; words beyond the last rule stay.
+ * Where memory has fewer words than SIDLUQETHE_HEAD_WORDS, or the buffer too few bytes, 0 is returned and nothing is written. */
+size_t sidluqethe_read(const uint8_t *text, size_t text_length,
+                       uint64_t *memory, size_t memory_words,
+                       uint8_t *buffer, size_t buffer_length);
+
+/* Writes the answer to a request into the buffer, as sidluqethe_decide does. Memory is what sidluqethe_read filled, with the same
+ * text: then the answers are those of sidluqethe_decide. Any other words and text end in an answer too, which means nothing but
+ * that a rule whose places hold no good pattern or target matches nothing. */
+size_t sidluqethe_ask(const uint8_t *text, size_t text_length,
+                      const uint64_t *memory, size_t memory_words,
+                      const uint8_t *name, size_t name_length,
+                      const uint8_t *path, size_t path_length,
+                      uint8_t asked, uint8_t owner,
+                      uint8_t *buffer, size_t buffer_length);
+
+/* ---- Read and ask in one call.
+ *
+ * Writes the answer to a request into the buffer and returns SIDLUQETHE_ANSWER_BYTES. A buffer of fewer bytes
  * stays as it was, and 0 is returned. owner is 0 where the file is not the step's own, any other number where it is.
  * Text, name and path are only read; they need no terminating NUL. A pointer may not be null, even with length 0.
  */

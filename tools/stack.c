@@ -1,4 +1,5 @@
-/* Asks the largest texts, accepted and refused, in threads with 64 KiB of stack, and says how much of it the deepest call used.
+/* Asks the largest texts, accepted and refused, in threads with 64 KiB of stack, in one call and as reading and asking, and says how
+ * much of the stack the deepest call used.
  * The stack is filled with one byte before the thread starts; what is no longer that byte afterwards was used. */
 #define _GNU_SOURCE
 #include "sidluqethe.h"
@@ -18,6 +19,7 @@ static size_t length;
 static uint8_t path[4096];
 static size_t path_length;
 static uint8_t answer[SIDLUQETHE_ANSWER_BYTES];
+static uint64_t memory[SIDLUQETHE_MEMORY_WORDS];
 
 static void put(const char *bytes) {
     size_t n = strlen(bytes);
@@ -40,6 +42,17 @@ static void path_of(size_t n, char byte) {
 
 static void *ask(void *unused) {
     sidluqethe_decide(text, length, (const uint8_t *)"p", 1, path, path_length, 127, 1, answer, sizeof answer);
+    return unused;
+}
+
+static void *read_once(void *unused) {
+    sidluqethe_read(text, length, memory, SIDLUQETHE_MEMORY_WORDS, answer, sizeof answer);
+    return unused;
+}
+
+static void *ask_often(void *unused) {
+    sidluqethe_ask(text, length, memory, SIDLUQETHE_MEMORY_WORDS, (const uint8_t *)"p", 1, path, path_length, 127, 1, answer,
+                   sizeof answer);
     return unused;
 }
 
@@ -74,14 +87,22 @@ static size_t used(void *(*work)(void *)) {
 
 static size_t most;
 
-/* Asks, and tells a text that is not answered as wanted or a stack that was full. */
-static void expect(const char *what, unsigned refusal) {
-    size_t own = used(rest), all = used(ask);
+/* Does the work, and tells a text that is not answered as wanted or a stack that was full. */
+static void work(const char *what, void *(*call)(void *), unsigned refusal) {
+    size_t own = used(rest), all = used(call);
     if (answer[SIDLUQETHE_AT_REFUSAL] != refusal || all == STACK) {
         fprintf(stderr, "stack: %s: refusal %u, %zu bytes used\n", what, answer[SIDLUQETHE_AT_REFUSAL], all);
         exit(1);
     }
     if (all - own > most) most = all - own;
+}
+
+/* Asks in one call, and by reading and asking where the text is accepted. */
+static void expect(const char *what, unsigned refusal) {
+    int text_refused = refusal == SIDLUQETHE_LONG_TEXT || refusal == SIDLUQETHE_BAD_FORM;
+    work(what, ask, refusal);
+    work(what, read_once, text_refused ? refusal : 0);
+    if (!text_refused) work(what, ask_often, refusal);
 }
 
 /* 32 variables, each used by the next; v is the value of the first. */

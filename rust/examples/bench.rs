@@ -1,13 +1,17 @@
-//! Times `decide` against plain C functions and prints a Markdown table.
+//! Times asking and `decide` against plain C functions and prints Markdown
+//! tables.
 //!
 //! `cargo run --release --example bench` measures everything in one run of
-//! under a minute. For `valgrind --tool=callgrind` (`tools/instructions`)
-//! only one kind of work is done, so many times: `bench decide RULES TIMES`
-//! asks requests of one profile, `bench read RULES TIMES` the same with a
-//! profile name that the text lacks, `bench long TIMES` reads the long text,
-//! and `bench lines TIMES` counts its LFs.
+//! about a minute. For `valgrind --tool=callgrind` (`tools/instructions`)
+//! only one kind of work is done, so many times: `bench ask KIND RULES TIMES`
+//! asks requests of one profile that was read once, `bench fnmatch KIND
+//! RULES TIMES` holds the same paths to its patterns, taken apart; `bench
+//! decide RULES TIMES` asks requests of its text, `bench read RULES TIMES`
+//! the same with a profile name that the text lacks, `bench fill RULES TIMES`
+//! reads it into memory, `bench long TIMES` reads the long text, and `bench
+//! lines TIMES` counts its LFs.
 
-use sidluqethe::{decide, Perms};
+use sidluqethe::{decide, Perms, Policy, Request};
 use std::env;
 use std::ffi::CString;
 use std::hint::black_box;
@@ -83,22 +87,94 @@ fn rule(n: usize, r: usize) -> (String, String) {
     (pattern, path)
 }
 
-/// A text of one profile with these patterns.
-fn text<'a>(patterns: impl Iterator<Item = &'a str>) -> Vec<u8> {
-    let rules: String = patterns.map(|p| format!("  {p} r,\n")).collect();
-    format!("profile lab {{\n{rules}}}\n").into_bytes()
+/// What stands in front of each pattern and behind it: nothing, a variable of
+/// two or of four values, one of two values and an alternation, or two
+/// alternations in front.
+#[derive(Clone, Copy)]
+enum Kind {
+    Plain,
+    Two,
+    Four,
+    Mixed,
+    Braces,
 }
 
-/// A profile of so many rules, its patterns for C, and paths: about one in
-/// eight matches, the others miss early, by a number or at their end.
+const KINDS: [Kind; 5] = [
+    Kind::Plain,
+    Kind::Two,
+    Kind::Four,
+    Kind::Mixed,
+    Kind::Braces,
+];
+
+impl Kind {
+    fn name(self) -> &'static str {
+        match self {
+            Kind::Plain => "plain",
+            Kind::Two => "two",
+            Kind::Four => "four",
+            Kind::Mixed => "mixed",
+            Kind::Braces => "braces",
+        }
+    }
+
+    fn of(word: &str) -> Kind {
+        let found = KINDS.into_iter().find(|kind| kind.name() == word);
+        found.expect("plain, two, four, mixed or braces")
+    }
+
+    /// As the profile writes it, and each of its expansions.
+    fn front(self) -> (&'static str, &'static [&'static str]) {
+        let four = &[
+            "/data/runs",
+            "/archive/runs",
+            "/scratch/runs",
+            "/mnt/lab/runs",
+        ];
+        match self {
+            Kind::Plain => ("", &[""]),
+            Kind::Two | Kind::Mixed => ("@{RUNS}", &four[..2]),
+            Kind::Four => ("@{RUNS}", four),
+            Kind::Braces => (
+                "/{data,archive}{,/old}",
+                &["/data", "/archive", "/data/old", "/archive/old"],
+            ),
+        }
+    }
+
+    /// The same of what stands behind.
+    fn back(self) -> (&'static str, &'static [&'static str]) {
+        match self {
+            Kind::Mixed => ("{,.gz}", &["", ".gz"]),
+            _ => ("", &[""]),
+        }
+    }
+}
+
+/// A text of one profile with these patterns.
+fn text<'a>(kind: Kind, patterns: impl Iterator<Item = &'a str>) -> Vec<u8> {
+    let ((front, expansions), (back, _)) = (kind.front(), kind.back());
+    let rule = |pattern| format!("  {front}{pattern}{back} r,\n");
+    let rules: String = patterns.map(rule).collect();
+    let variable = match kind {
+        Kind::Two | Kind::Four | Kind::Mixed => format!("@{{RUNS}}={}\n", expansions.join(" ")),
+        Kind::Plain | Kind::Braces => String::new(),
+    };
+    format!("{variable}profile lab {{\n{rules}}}\n").into_bytes()
+}
+
+/// A profile of so many rules, its patterns for C, each expansion by itself,
+/// and paths: about one in eight matches, the others miss early, by a number
+/// or at their end.
 struct Load {
     text: Vec<u8>,
     patterns: Vec<CString>,
     paths: Vec<CString>,
 }
 
-fn load(rules: usize) -> Load {
+fn load(kind: Kind, rules: usize) -> Load {
     let mut random = Random(rules as u64);
+    let ((_, fronts), (_, backs)) = (kind.front(), kind.back());
     let patterns: Vec<String> = (0..rules).map(|n| rule(n, 0).0).collect();
     let paths = (0..PATHS).map(|_| {
         let (n, r) = (random.below(rules), random.below(100_000));
@@ -108,16 +184,35 @@ fn load(rules: usize) -> Load {
             6..=7 => rule(n, r).1 + "/.more",
             _ => format!("/proc/{r}/task/{n}/status"),
         };
-        CString::new(path).unwrap()
+        CString::new(format!("{}{path}", fronts[r % fronts.len()])).unwrap()
     });
+    let both = fronts
+        .iter()
+        .flat_map(|f| backs.iter().map(move |b| (f, b)));
+    let both: Vec<_> = both.collect();
+    let expanded = patterns
+        .iter()
+        .flat_map(|p| both.iter().map(move |(f, b)| format!("{f}{p}{b}")));
     Load {
-        text: text(patterns.iter().map(String::as_str)),
+        text: text(kind, patterns.iter().map(String::as_str)),
         paths: paths.collect(),
-        patterns: patterns
-            .iter()
-            .map(|p| CString::new(p.as_str()).unwrap())
-            .collect(),
+        patterns: expanded.map(|p| CString::new(p).unwrap()).collect(),
     }
+}
+
+/// How many of the paths may be read, by what was read once.
+fn by_asking(policy: &Policy, paths: &[CString]) -> usize {
+    let reads = |path: &&CString| {
+        let request = Request {
+            profile: b"lab",
+            path: path.as_bytes(),
+            asked: Perms::READ,
+            owner: false,
+        };
+        let answer = policy.ask(&request);
+        answer.expect("a good request").granted == Perms::READ
+    };
+    paths.iter().filter(reads).count()
 }
 
 /// How many of the paths may be read.
@@ -174,7 +269,7 @@ fn medians<const N: usize>(rows: &[[f64; N]]) -> [f64; N] {
 /// One row of the table: each round takes other paths and times the three
 /// in turn, so that a busy machine slows all of them.
 fn requests(rules: usize) {
-    let load = load(rules);
+    let load = load(Kind::Plain, rules);
     let asked = (PATHS / ROUNDS).min(WEIGHED / rules);
     let (mut granted, mut matched) = (0, 0);
     let mut rows = Vec::new();
@@ -206,11 +301,35 @@ fn long_text() -> Vec<u8> {
     let patterns: Vec<String> = (0..512)
         .map(|n| format!("/var/lib/lab/projects/department-{:02}/experiment-{n:04}/final-results/checkpoint-????/[a-f0-9]*/values/**", n % 37))
         .collect();
-    text(patterns.iter().map(String::as_str))
+    text(Kind::Plain, patterns.iter().map(String::as_str))
 }
 
 fn any_path() -> [CString; 1] {
     [CString::new("/proc/1/status").unwrap()]
+}
+
+/// One row of the table of asking: all paths in each round.
+fn asking(kind: Kind, rules: usize) {
+    let load = load(kind, rules);
+    let policy = Policy::read(&load.text[..]).expect("an accepted text");
+    let (mut granted, mut matched) = (0, 0);
+    let mut rows = Vec::new();
+    for _ in 0..ROUNDS {
+        let (ask, count) = time(PATHS, || by_asking(&policy, &load.paths));
+        granted = count;
+        let (loops, count) = time(PATHS, || by_fnmatch(&load.patterns, &load.paths));
+        matched = count;
+        rows.push([ask, loops, ask / loops]);
+    }
+    let [ask, loops, ratio] = medians(&rows);
+    println!(
+        "| {} | {rules} | {} | {:.1}% | {:.1}% | {ask:.3} | {loops:.3} | {ratio:.2} | {:.1} |",
+        kind.name(),
+        load.patterns.len(),
+        100.0 * granted as f64 / PATHS as f64,
+        100.0 * matched as f64 / PATHS as f64,
+        ask * 40.0,
+    );
 }
 
 fn reading() {
@@ -240,12 +359,26 @@ fn reading() {
 fn only(arguments: &[&str]) {
     let number = |word: &str| word.parse::<usize>().expect("a number");
     let count = match *arguments {
+        ["ask", kind, rules, times] => {
+            let load = load(Kind::of(kind), number(rules));
+            let policy = Policy::read(&load.text[..]).expect("an accepted text");
+            by_asking(&policy, &load.paths[..number(times)])
+        }
+        ["fnmatch", kind, rules, times] => {
+            let load = load(Kind::of(kind), number(rules));
+            by_fnmatch(&load.patterns, &load.paths[..number(times)])
+        }
+        ["fill", rules, times] => {
+            let load = load(Kind::Plain, number(rules));
+            let read = |_| Policy::read(&load.text[..]).expect("an accepted text");
+            (0..number(times)).map(|n| read(n).rules()).sum()
+        }
         ["decide", rules, times] => {
-            let load = load(number(rules));
+            let load = load(Kind::Plain, number(rules));
             by_decide(&load.text, &load.paths[..number(times)])
         }
         ["read", rules, times] => {
-            let load = load(number(rules));
+            let load = load(Kind::Plain, number(rules));
             by_reading(&load.text, &load.paths[..number(times)])
         }
         ["long", times] => {
@@ -257,7 +390,7 @@ fn only(arguments: &[&str]) {
             let times = 0..number(times);
             times.map(|_| line_feeds(black_box(&text))).sum()
         }
-        _ => panic!("decide RULES TIMES, read RULES TIMES, long TIMES or lines TIMES"),
+        _ => panic!("ask or fnmatch KIND RULES TIMES; decide, read or fill RULES TIMES; long or lines TIMES"),
     };
     println!("{count}");
 }
@@ -275,6 +408,14 @@ fn main() {
     println!("|---|---|---|---|---|---|---|---|---|---|---|---|");
     for rules in [10, 100, 500] {
         requests(rules);
+    }
+    println!("\nRead once, asked {PATHS} times; fnmatch holds each path to each expansion.\n");
+    println!("| front | rules | expansions | granted | fnmatch matched | ask µs | fnmatch loop µs | ask / fnmatch | 40,000 asks ms |");
+    println!("|---|---|---|---|---|---|---|---|---|");
+    for kind in KINDS {
+        for rules in [10, 100, 500] {
+            asking(kind, rules);
+        }
     }
     println!("\nMedians of {PASSES} rounds:\n");
     reading();

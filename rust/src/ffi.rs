@@ -1,7 +1,16 @@
-//! The C entry point of `libbroker.a`: the only unsafe code of the package.
+//! The C entry points of `libbroker.a`: the only unsafe code of the package.
 
 /// Bytes of an answer.
 pub(crate) const ANSWER: usize = 264;
+
+/// Words of memory in front of the rules.
+pub(crate) const HEAD: usize = 1_256;
+
+/// Words of memory for each rule.
+pub(crate) const RULE: usize = 12;
+
+/// The most rules of a text.
+pub(crate) const RULES: usize = 512;
 
 extern "C" {
     fn sidluqethe_decide(
@@ -16,6 +25,36 @@ extern "C" {
         answer: *mut u8,
         answer_len: usize,
     ) -> usize;
+
+    fn sidluqethe_read(
+        text: *const u8,
+        text_len: usize,
+        memory: *mut u64,
+        memory_len: usize,
+        answer: *mut u8,
+        answer_len: usize,
+    ) -> usize;
+
+    fn sidluqethe_ask(
+        text: *const u8,
+        text_len: usize,
+        memory: *const u64,
+        memory_len: usize,
+        name: *const u8,
+        name_len: usize,
+        path: *const u8,
+        path_len: usize,
+        asked: u8,
+        owner: u8,
+        answer: *mut u8,
+        answer_len: usize,
+    ) -> usize;
+}
+
+/// The library has written a whole answer.
+fn whole(written: usize, answer: [u8; ANSWER]) -> [u8; ANSWER] {
+    assert_eq!(written, ANSWER, "the archive is of another version");
+    answer
 }
 
 /// Asks the library; the answer comes back as it stands in the buffer.
@@ -45,6 +84,53 @@ pub(crate) fn decide(
             answer.len(),
         )
     };
-    assert_eq!(written, ANSWER, "the archive is of another version");
-    answer
+    whole(written, answer)
+}
+
+/// Has the library read a text into memory of at least [`HEAD`] words.
+pub(crate) fn read(text: &[u8], memory: &mut [u64]) -> [u8; ANSWER] {
+    let mut answer = [0u8; ANSWER];
+    // SAFETY: as above; the library writes at most `memory_len` words of
+    // memory, which is borrowed for this call alone.
+    let written = unsafe {
+        sidluqethe_read(
+            text.as_ptr(),
+            text.len(),
+            memory.as_mut_ptr(),
+            memory.len(),
+            answer.as_mut_ptr(),
+            answer.len(),
+        )
+    };
+    whole(written, answer)
+}
+
+/// Asks what the library has read; any memory and any text end in an answer.
+pub(crate) fn ask(
+    text: &[u8],
+    memory: &[u64],
+    name: &[u8],
+    path: &[u8],
+    asked: u8,
+    owner: bool,
+) -> [u8; ANSWER] {
+    let mut answer = [0u8; ANSWER];
+    // SAFETY: as above; memory is only read.
+    let written = unsafe {
+        sidluqethe_ask(
+            text.as_ptr(),
+            text.len(),
+            memory.as_ptr(),
+            memory.len(),
+            name.as_ptr(),
+            name.len(),
+            path.as_ptr(),
+            path.len(),
+            asked,
+            u8::from(owner),
+            answer.as_mut_ptr(),
+            answer.len(),
+        )
+    };
+    whole(written, answer)
 }

@@ -1,11 +1,13 @@
 //! Does this profile text let a step have this file?
 //!
-//! [`decide`] takes profile text, the name of a profile in it and a request:
-//! a path, the asked permissions and the owner mark. It says what is granted,
-//! what is recorded and which execute transition applies, or refuses with a
-//! number and a line. Any bytes may be given; nothing needs checking first.
-//! A call allocates nothing but a target's bytes, and the library uses less
-//! than 48 KiB of the caller's stack (measured on the largest texts).
+//! A [`Policy`] is a profile text that was read once. It is asked with a
+//! [`Request`]: the name of a profile, a path, the asked permissions and the
+//! owner mark. It says what is granted, what is recorded and which execute
+//! transition applies, or refuses with a number and a line. [`decide`] does
+//! both for a text that is asked but once, and gives the same answers.
+//! Any bytes may be given; nothing needs checking first. A request allocates
+//! nothing but a target's bytes, and the library uses less than 48 KiB of the
+//! caller's stack (measured on the largest texts).
 //!
 //! # Example
 //!
@@ -55,6 +57,9 @@ use std::fmt;
 
 #[allow(unsafe_code)]
 mod ffi;
+mod policy;
+
+pub use policy::{Policy, Request};
 
 /// A set of permissions, the sum of the numbers below.
 ///

@@ -6,6 +6,7 @@ mod vector;
 
 use generator::Stream;
 use reference::{Answer, Execute, Refusal};
+use sidluqethe::Policy;
 use std::collections::BTreeMap;
 use std::env;
 use std::time::Instant;
@@ -44,10 +45,13 @@ fn compare(seed: u64, requests: usize) {
         let expected = request.by_reference();
         spread.count(&request, &expected);
         let expected = fields(&expected);
-        let given = request.by_library();
-        if given != expected {
+        let decided = request.by_library();
+        let asked = request.by_policy();
+        let rooms = in_every_room(&request.text);
+        if decided != expected || asked != expected || rooms.is_err() {
             differences += 1;
-            println!("{}\t{expected}\n  the library: {given}", request.line());
+            println!("{}\t{expected}", request.line());
+            println!("  the library: {decided}, by asking: {asked}, rooms: {rooms:?}");
             assert!(differences < 20, "too many differences, seed {seed}");
         }
     }
@@ -57,6 +61,27 @@ fn compare(seed: u64, requests: usize) {
     );
     spread.print();
     assert_eq!(differences, 0, "seed {seed}");
+}
+
+/// Reads the text with room for no rule, for one too few, for all and for
+/// 512; what both say where they differ.
+fn in_every_room(text: &[u8]) -> Result<(), String> {
+    if text.len() > 65_535 {
+        return Ok(());
+    }
+    let rules = reference::text::read(text).map_or(1, |file| file.rules);
+    for room in [0, rules.saturating_sub(1), rules, 512] {
+        let expected = reference::text::read_within(text, room);
+        let expected = expected
+            .map(|file| file.rules)
+            .map_err(|r| (r.number, r.line));
+        let given = Policy::read_within(text, room);
+        let given = given.map(|p| p.rules()).map_err(|r| (r.number, r.line));
+        if given != expected {
+            return Err(format!("{room}: {expected:?}, the library {given:?}"));
+        }
+    }
+    Ok(())
 }
 
 /// The generator reaches every kind of answer, by the reference alone.

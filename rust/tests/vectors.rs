@@ -19,12 +19,20 @@ fn library_agrees_with_the_stored_answers() {
     check("the library", Request::by_library);
 }
 
+#[test]
+fn reading_and_asking_agree_with_the_stored_answers() {
+    check("reading and asking", Request::by_policy);
+}
+
 /// The same by a thread whose stack is small: the largest texts, accepted and
 /// refused, are among them.
 #[test]
 fn a_small_stack_is_enough() {
     let thread = thread::Builder::new().stack_size(64 << 10);
-    let work = || check("a thread of 64 KiB", Request::by_library);
+    let work = || {
+        check("a thread of 64 KiB", Request::by_library);
+        check("a thread of 64 KiB that reads and asks", Request::by_policy);
+    };
     let thread = thread.spawn(work).expect("a thread");
     thread.join().expect("an end without a panic");
 }

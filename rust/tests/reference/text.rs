@@ -71,13 +71,25 @@ pub struct File {
     pub profiles: Vec<Profile>,
     /// Expansions and pieces of each variable, known once the preamble ends.
     sizes: Vec<Size>,
-    rules: usize,
+    pub rules: usize,
+    /// How many rules there may be.
+    room: usize,
 }
 
 /// Reads a whole text. "An empty text is accepted."
 pub fn read(text: &[u8]) -> Result<File, Refusal> {
+    read_within(text, RULES)
+}
+
+/// "If the table has fewer records than the file has rules, refusal 9 at the
+/// pattern of the first rule that found no place, in the order of one rule
+/// too many."
+pub fn read_within(text: &[u8], records: usize) -> Result<File, Refusal> {
     let mut reader = Reader { text, at: 0 };
-    let mut file = File::default();
+    let mut file = File {
+        room: records.min(RULES),
+        ..File::default()
+    };
     while reader.more()? {
         // "Outside profiles `@{` starts one"
         if reader.stands(b"@{") {
@@ -472,7 +484,7 @@ fn read_pattern(reader: &mut Reader, file: &File, qualified: bool) -> Result<Vec
         return reader.refuse(5, reader.at);
     }
     let token = reader.token(b"")?;
-    if token.bytes.len() > WRITTEN || file.rules == RULES {
+    if token.bytes.len() > WRITTEN || file.rules == file.room {
         return reader.refuse(9, token.at);
     }
     let Some(items) = pattern::parse(token.bytes) else {

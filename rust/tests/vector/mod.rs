@@ -46,15 +46,45 @@ impl Request {
     /// Fields 6 to 9 of the library's answer.
     pub fn by_library(&self) -> String {
         let asked = sidluqethe::Perms(self.asked);
-        match sidluqethe::decide(&self.text, &self.name, &self.path, asked, self.owner) {
-            Err(refusal) => refused(refusal.number, refusal.line),
-            Ok(answer) => answered(
-                answer.granted.0,
-                answer.recorded.0,
-                &answer.execute.to_string(),
-                answer.target.as_deref(),
-            ),
-        }
+        given(sidluqethe::decide(
+            &self.text, &self.name, &self.path, asked, self.owner,
+        ))
+    }
+
+    /// The same by reading and asking, in the order of one request: what is
+    /// wrong with the request comes before what is wrong with the text.
+    pub fn by_policy(&self) -> String {
+        let request = sidluqethe::Request {
+            profile: &self.name,
+            path: &self.path,
+            asked: sidluqethe::Perms(self.asked),
+            owner: self.owner,
+        };
+        let policy = match sidluqethe::Policy::read(&self.text[..]) {
+            Ok(policy) => policy,
+            Err(refusal) if refusal.number == 1 => return given(Err(refusal)),
+            Err(refusal) => {
+                let empty = sidluqethe::Policy::read("").expect("an empty text");
+                return match empty.ask(&request) {
+                    Err(other) if other.number < 4 => given(Err(other)),
+                    _ => given(Err(refusal)),
+                };
+            }
+        };
+        given(policy.ask(&request))
+    }
+}
+
+/// Fields 6 to 9 of the library's answer.
+fn given(answer: Result<sidluqethe::Answer, sidluqethe::Refusal>) -> String {
+    match answer {
+        Err(refusal) => refused(refusal.number, refusal.line),
+        Ok(answer) => answered(
+            answer.granted.0,
+            answer.recorded.0,
+            &answer.execute.to_string(),
+            answer.target.as_deref(),
+        ),
     }
 }
 
