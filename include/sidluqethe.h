@@ -23,16 +23,23 @@ enum {
     SIDLUQETHE_EXECUTE = 64
 };
 
-/* The layout of an answer: places in its bytes. */
+/* The number of the layout below; 1 had no column. A caller may test it at compile time. One that was built for layout 1 lends 264
+ * bytes, which is too short: 0 is returned and nothing is written. */
+#define SIDLUQETHE_LAYOUT 2
+
+/* The layout of an answer: places in its bytes. A refusal of the text (4 to 10) has a line and a column, each in four bytes, lowest
+ * first; the others have 0 and 0. The line is 1 plus the LFs before the offending token. The column is the bytes since the last LF
+ * before the token's first byte, counted from 1; at the text's end, one past the last byte of that line. Both are at most 65,536. */
 enum {
-    SIDLUQETHE_AT_REFUSAL = 0,       /* number of the refusal, 0 where there is an answer */
-    SIDLUQETHE_AT_GRANTED = 1,       /* set of granted permissions */
-    SIDLUQETHE_AT_RECORDED = 2,      /* set of permissions to record */
-    SIDLUQETHE_AT_EXECUTE = 3,       /* an execute answer, see below */
-    SIDLUQETHE_AT_LINE = 4,          /* line of the refusal, four bytes, lowest first; 0 where it has none */
-    SIDLUQETHE_AT_TARGET_LENGTH = 8, /* length of the target, 0 where there is none */
-    SIDLUQETHE_AT_TARGET = 9,        /* 255 bytes of the target, zero beyond its length */
-    SIDLUQETHE_ANSWER_BYTES = 264
+    SIDLUQETHE_AT_REFUSAL = 0,        /* number of the refusal, 0 where there is an answer */
+    SIDLUQETHE_AT_GRANTED = 1,        /* set of granted permissions */
+    SIDLUQETHE_AT_RECORDED = 2,       /* set of permissions to record */
+    SIDLUQETHE_AT_EXECUTE = 3,        /* an execute answer, see below */
+    SIDLUQETHE_AT_LINE = 4,           /* line of the refusal */
+    SIDLUQETHE_AT_COLUMN = 8,         /* column of the refusal */
+    SIDLUQETHE_AT_TARGET_LENGTH = 12, /* length of the target, 0 where there is none */
+    SIDLUQETHE_AT_TARGET = 13,        /* 255 bytes of the target, zero beyond its length */
+    SIDLUQETHE_ANSWER_BYTES = 268
 };
 
 /* Execute answers. */
@@ -96,9 +103,10 @@ enum {
     SIDLUQETHE_AT_RULE_COUNT = 1250
 };
 
-/* Reads a text into memory and returns SIDLUQETHE_ANSWER_BYTES. The buffer then holds an answer: its refusal and line say why the
- * text is refused, or are 0 where it is accepted; nothing is granted. A text that is refused leaves memory as it was. With room for
- * fewer rules than the text has, it is refused 9 at the pattern of the first rule that finds none; words beyond the last rule stay.
+/* Reads a text into memory and returns SIDLUQETHE_ANSWER_BYTES. The buffer then holds an answer: its refusal, line and column say
+ * why the text is refused and where, or are 0 where it is accepted; nothing is granted. A text that is refused leaves memory as it
+ * was. With room for fewer rules than the text has, it is refused 9 at the pattern of the first rule that finds none; words beyond
+ * the last rule stay.
  * Where memory has fewer words than SIDLUQETHE_HEAD_WORDS, or the buffer too few bytes, 0 is returned and nothing is written. */
 size_t sidluqethe_read(const uint8_t *text, size_t text_length,
                        uint64_t *memory, size_t memory_words,

@@ -3,6 +3,10 @@
 #include <stdio.h>
 #include <string.h>
 
+#if SIDLUQETHE_LAYOUT != 2
+#error "answers have another layout"
+#endif
+
 static const char text[] = "@{RUN}=/runs/a/ /runs/b/\n"
                            "profile step {\n"
                            "  @{RUN}in/* r,\n"
@@ -14,6 +18,11 @@ static const char text[] = "@{RUN}=/runs/a/ /runs/b/\n"
 
 static uint64_t memory[SIDLUQETHE_MEMORY_WORDS];
 
+/* The number in the four bytes at a place, lowest first. */
+static unsigned long number(const uint8_t *at) {
+    return at[0] | (unsigned long)at[1] << 8 | (unsigned long)at[2] << 16 | (unsigned long)at[3] << 24;
+}
+
 /* Asks the text, and then what was read of it: both answers are the same bytes. */
 static void ask(const char *name, const char *path, uint8_t asked, uint8_t owner) {
     uint8_t a[SIDLUQETHE_ANSWER_BYTES], b[SIDLUQETHE_ANSWER_BYTES];
@@ -22,9 +31,9 @@ static void ask(const char *name, const char *path, uint8_t asked, uint8_t owner
     size_t m = sidluqethe_ask((const uint8_t *)text, strlen(text), memory, SIDLUQETHE_MEMORY_WORDS, (const uint8_t *)name,
                               strlen(name), (const uint8_t *)path, strlen(path), asked, owner, b, sizeof b);
     if (n != m || memcmp(a, b, sizeof a)) printf("asked otherwise: ");
-    printf("%zu %u %u %u %u %u %.*s\n", n, a[SIDLUQETHE_AT_REFUSAL], a[SIDLUQETHE_AT_LINE], a[SIDLUQETHE_AT_GRANTED],
-           a[SIDLUQETHE_AT_RECORDED], a[SIDLUQETHE_AT_EXECUTE], a[SIDLUQETHE_AT_TARGET_LENGTH],
-           (const char *)a + SIDLUQETHE_AT_TARGET);
+    printf("%zu %u %lu %lu %u %u %u %.*s\n", n, a[SIDLUQETHE_AT_REFUSAL], number(a + SIDLUQETHE_AT_LINE),
+           number(a + SIDLUQETHE_AT_COLUMN), a[SIDLUQETHE_AT_GRANTED], a[SIDLUQETHE_AT_RECORDED], a[SIDLUQETHE_AT_EXECUTE],
+           a[SIDLUQETHE_AT_TARGET_LENGTH], (const char *)a + SIDLUQETHE_AT_TARGET);
 }
 
 /* Reads the text with room for so many rules, and shows what came back and whether words changed. */
@@ -39,8 +48,26 @@ static void read_within(size_t rules) {
         changed |= words[i] != 7;
         beyond |= words[i] != 7 && i >= SIDLUQETHE_HEAD_WORDS + 5 * SIDLUQETHE_RULE_WORDS;
     }
-    printf("%zu %u %u %s%s\n", n, a[SIDLUQETHE_AT_REFUSAL], a[SIDLUQETHE_AT_LINE], changed ? "filled" : "as found",
-           beyond ? ", beyond the last rule" : "");
+    printf("%zu %u %lu %lu %s%s\n", n, a[SIDLUQETHE_AT_REFUSAL], number(a + SIDLUQETHE_AT_LINE), number(a + SIDLUQETHE_AT_COLUMN),
+           changed ? "filled" : "as found", beyond ? ", beyond the last rule" : "");
+}
+
+/* Has a text refused in one call and by reading, and shows the place with each byte of its column. The text is `front`, so many
+ * blanks and `back`. */
+static void refused(const char *front, size_t blanks, const char *back) {
+    static uint8_t bytes[65535];
+    static uint64_t words[SIDLUQETHE_MEMORY_WORDS];
+    uint8_t a[SIDLUQETHE_ANSWER_BYTES], b[SIDLUQETHE_ANSWER_BYTES];
+    const uint8_t *column = a + SIDLUQETHE_AT_COLUMN;
+    size_t f = strlen(front), all = f + blanks + strlen(back);
+    memcpy(bytes, front, f);
+    memset(bytes + f, ' ', blanks);
+    memcpy(bytes + f + blanks, back, strlen(back));
+    size_t n = sidluqethe_decide(bytes, all, (const uint8_t *)"step", 4, (const uint8_t *)"/a", 2, 1, 0, a, sizeof a);
+    size_t m = sidluqethe_read(bytes, all, words, SIDLUQETHE_MEMORY_WORDS, b, sizeof b);
+    if (n != m || memcmp(a, b, sizeof a)) printf("read otherwise: ");
+    printf("%zu %u %lu %lu: %u %u %u %u\n", n, a[SIDLUQETHE_AT_REFUSAL], number(a + SIDLUQETHE_AT_LINE), number(column), column[0],
+           column[1], column[2], column[3]);
 }
 
 int main(void) {
@@ -66,6 +93,8 @@ int main(void) {
     read_within(4);
     read_within(5);
     read_within(512);
+    refused("profile step {\n", 1000, "/b{ r, }");
+    refused("profile step {", 65521, "");
     printf("%zu %zu\n", sidluqethe_read((const uint8_t *)text, strlen(text), memory, SIDLUQETHE_HEAD_WORDS - 1, whole, sizeof whole),
            sidluqethe_read((const uint8_t *)text, strlen(text), memory, SIDLUQETHE_MEMORY_WORDS, less, sizeof less));
     return 0;

@@ -203,12 +203,7 @@ fn load(kind: Kind, rules: usize) -> Load {
 /// How many of the paths may be read, by what was read once.
 fn by_asking(policy: &Policy, paths: &[CString]) -> usize {
     let reads = |path: &&CString| {
-        let request = Request {
-            profile: b"lab",
-            path: path.as_bytes(),
-            asked: Perms::READ,
-            owner: false,
-        };
+        let request = Request::new(b"lab", path.as_bytes(), Perms::READ);
         let answer = policy.ask(&request);
         answer.expect("a good request").granted == Perms::READ
     };

@@ -1,5 +1,6 @@
 //! Writes the reference's answers: reads request lines (fields 1 to 5 of the
-//! vector format, further ones ignored) and writes fields 6 to 9 for each.
+//! vector format, further ones ignored) and writes the answer's fields for
+//! each, a refusal's column after its line.
 
 #[path = "../tests/reference/mod.rs"]
 mod reference;

@@ -1,7 +1,15 @@
 //! The C entry points of `libbroker.a`: the only unsafe code of the package.
 
-/// Bytes of an answer.
-pub(crate) const ANSWER: usize = 264;
+/// Bytes of an answer, and where its parts stand.
+pub(crate) const ANSWER: usize = 268;
+pub(crate) const REFUSAL: usize = 0;
+pub(crate) const GRANTED: usize = 1;
+pub(crate) const RECORDED: usize = 2;
+pub(crate) const EXECUTE: usize = 3;
+pub(crate) const LINE: usize = 4;
+pub(crate) const COLUMN: usize = 8;
+pub(crate) const TARGET_LENGTH: usize = 12;
+pub(crate) const TARGET: usize = 13;
 
 /// Words of memory in front of the rules.
 pub(crate) const HEAD: usize = 1_256;
@@ -49,6 +57,11 @@ extern "C" {
         answer: *mut u8,
         answer_len: usize,
     ) -> usize;
+}
+
+/// A number of four bytes in an answer, lowest first.
+pub(crate) fn number(answer: &[u8; ANSWER], at: usize) -> u32 {
+    u32::from_le_bytes(std::array::from_fn(|i| answer[at + i]))
 }
 
 /// The library has written a whole answer.

@@ -3,8 +3,9 @@
 //! A [`Policy`] is a profile text that was read once. It is asked with a
 //! [`Request`]: the name of a profile, a path, the asked permissions and the
 //! owner mark. It says what is granted, what is recorded and which execute
-//! transition applies, or refuses with a number and a line. [`decide`] does
-//! both for a text that is asked but once, and gives the same answers.
+//! transition applies, or refuses with a number, a line and a column.
+//! [`decide`] does both for a text that is asked but once, and gives the same
+//! answers.
 //! Any bytes may be given; nothing needs checking first. A request allocates
 //! nothing but a target's bytes, and the library uses less than 48 KiB of the
 //! caller's stack (measured on the largest texts).
@@ -45,8 +46,14 @@
 //!
 //! // No profile of that name.
 //! let refusal = decide(text, b"other", b"/bin/cat", Perms::EXECUTE, false).unwrap_err();
-//! assert_eq!(refusal, Refusal { number: 11, line: 0 });
+//! assert_eq!(refusal.number, 11);
 //! assert_eq!(refusal.to_string(), "refused 11: no profile with that name");
+//!
+//! // A text at fault is refused with the place of the offending token.
+//! let text = b"profile step {\n  /data/* r, /tmp/** rq,\n}\n";
+//! let refusal = decide(text, b"step", b"/tmp/x", Perms::READ, false).unwrap_err();
+//! assert_eq!((refusal.number, refusal.line, refusal.column), (8, 2, 22));
+//! assert_eq!(refusal.to_string(), "refused 8 at line 2, column 22: bad permissions");
 //! # Ok::<(), Refusal>(())
 //! ```
 
@@ -202,6 +209,7 @@ impl fmt::Display for Execute {
 
 /// What a request gets.
 #[derive(Clone, Debug, PartialEq, Eq, Hash)]
+#[non_exhaustive]
 pub struct Answer {
     /// Asked permissions that the step gets.
     pub granted: Perms,
@@ -227,11 +235,17 @@ impl fmt::Display for Answer {
 
 /// A numbered refusal. It grants nothing, records nothing, names no target.
 #[derive(Clone, Copy, Debug, PartialEq, Eq, Hash)]
+#[non_exhaustive]
 pub struct Refusal {
     /// Which refusal, 1 to 11.
     pub number: u8,
-    /// The line of the offending token; 0 where the text is not at fault.
+    /// The line of the offending token, from 1; 0 where the refusal is not at
+    /// a place in the text: 1, 2, 3 and 11.
     pub line: u32,
+    /// The bytes since the last LF before the token's first byte, from 1; at
+    /// the text's end, one past the last byte of that line. 0 where the line
+    /// is 0.
+    pub column: u32,
 }
 
 impl Refusal {
@@ -258,7 +272,7 @@ impl fmt::Display for Refusal {
     fn fmt(&self, f: &mut fmt::Formatter<'_>) -> fmt::Result {
         write!(f, "refused {}", self.number)?;
         if self.line != 0 {
-            write!(f, " at line {}", self.line)?;
+            write!(f, " at line {}, column {}", self.line, self.column)?;
         }
         write!(f, ": {}", self.reason())
     }
@@ -271,7 +285,7 @@ impl Error for Refusal {}
 /// # Errors
 ///
 /// A text, path, asked set or name that the rules refuse gives the refusal's
-/// number and line.
+/// number, line and column.
 pub fn decide(
     text: &[u8],
     name: &[u8],
@@ -284,18 +298,19 @@ pub fn decide(
 
 /// Reads the archive's answer bytes.
 fn decode(raw: &[u8; ffi::ANSWER]) -> Result<Answer, Refusal> {
-    if raw[0] != 0 {
+    if raw[ffi::REFUSAL] != 0 {
         return Err(Refusal {
-            number: raw[0],
-            line: u32::from_le_bytes([raw[4], raw[5], raw[6], raw[7]]),
+            number: raw[ffi::REFUSAL],
+            line: ffi::number(raw, ffi::LINE),
+            column: ffi::number(raw, ffi::COLUMN),
         });
     }
-    let length = usize::from(raw[8]);
+    let length = usize::from(raw[ffi::TARGET_LENGTH]);
     Ok(Answer {
-        granted: Perms(raw[1]),
-        recorded: Perms(raw[2]),
-        execute: decode_execute(raw[3]),
-        target: (length > 0).then(|| raw[9..9 + length].to_vec()),
+        granted: Perms(raw[ffi::GRANTED]),
+        recorded: Perms(raw[ffi::RECORDED]),
+        execute: decode_execute(raw[ffi::EXECUTE]),
+        target: (length > 0).then(|| raw[ffi::TARGET..][..length].to_vec()),
     })
 }
 
@@ -324,23 +339,30 @@ mod tests {
 
     #[test]
     fn refusals_are_decoded() {
-        let refusal = decode(&raw(&[8, 0, 0, 0, 2, 1, 0, 0])).unwrap_err();
-        assert_eq!(
-            refusal,
-            Refusal {
-                number: 8,
-                line: 258
-            }
-        );
+        let bytes = [8, 0, 0, 0, 2, 1, 0, 0, 0, 0, 1, 0];
+        let refusal = decode(&raw(&bytes)).unwrap_err();
+        let expected = Refusal {
+            number: 8,
+            line: 258,
+            column: 65_536,
+        };
+        assert_eq!(refusal, expected);
         assert_eq!(
             refusal.to_string(),
-            "refused 8 at line 258: bad permissions"
+            "refused 8 at line 258, column 65536: bad permissions"
         );
     }
 
     #[test]
+    fn a_refusal_without_a_place_names_none() {
+        let refusal = decode(&raw(&[2])).unwrap_err();
+        assert_eq!((refusal.line, refusal.column), (0, 0));
+        assert!(refusal.to_string().starts_with("refused 2: path empty"));
+    }
+
+    #[test]
     fn answers_are_decoded() {
-        let answer = decode(&raw(b"\0\x40\0\x05\0\0\0\0\x04tool")).unwrap();
+        let answer = decode(&raw(b"\0\x40\0\x05\0\0\0\0\0\0\0\0\x04tool")).unwrap();
         assert_eq!(answer.to_string(), "64\t0\tpx\ttool");
         let answer = decode(&raw(&[0, 1, 2, 0])).unwrap();
         assert_eq!(answer.to_string(), "1\t2\t-\t-");
@@ -348,7 +370,7 @@ mod tests {
 
     #[test]
     fn the_longest_target_is_decoded() {
-        let mut bytes = vec![0, 64, 0, 4, 0, 0, 0, 0, 255];
+        let mut bytes = vec![0, 64, 0, 4, 0, 0, 0, 0, 0, 0, 0, 0, 255];
         bytes.extend([b'a'; 255]);
         let target = decode(&raw(&bytes)).unwrap().target.unwrap();
         assert_eq!(target, [b'a'; 255]);

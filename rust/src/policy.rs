@@ -4,7 +4,16 @@ use crate::{decode, ffi, Answer, Perms, Refusal};
 use std::fmt;
 
 /// What is asked of a [`Policy`].
+///
+/// ```
+/// use sidluqethe::{Perms, Request};
+///
+/// let request = Request::new(b"step", b"/data/a.vcf", Perms::READ).owner(true);
+/// assert_eq!(request.path, b"/data/a.vcf");
+/// assert!(request.owner);
+/// ```
 #[derive(Clone, Copy, Debug, PartialEq, Eq, Hash)]
+#[non_exhaustive]
 pub struct Request<'a> {
     /// The name of the profile that the step runs under.
     pub profile: &'a [u8],
@@ -14,6 +23,25 @@ pub struct Request<'a> {
     pub asked: Perms,
     /// Whether the file is the step's own.
     pub owner: bool,
+}
+
+impl<'a> Request<'a> {
+    /// A request for a file that is not the step's own.
+    #[must_use]
+    pub const fn new(profile: &'a [u8], path: &'a [u8], asked: Perms) -> Request<'a> {
+        Request {
+            profile,
+            path,
+            asked,
+            owner: false,
+        }
+    }
+
+    /// The same request with this owner mark.
+    #[must_use]
+    pub const fn owner(self, owner: bool) -> Request<'a> {
+        Request { owner, ..self }
+    }
 }
 
 /// A profile text that was accepted, and what was read of it.
@@ -27,15 +55,10 @@ pub struct Request<'a> {
 /// let policy = Policy::read("profile step { /data/*.vcf r, }")?;
 /// assert_eq!(policy.names().collect::<Vec<_>>(), [b"step"]);
 ///
-/// let request = Request {
-///     profile: b"step",
-///     path: b"/data/a.vcf",
-///     asked: Perms::READ,
-///     owner: false,
-/// };
+/// let request = Request::new(b"step", b"/data/a.vcf", Perms::READ);
 /// assert_eq!(policy.ask(&request)?.granted, Perms::READ);
 ///
-/// let other = Request { path: b"/data/b.bam", ..request };
+/// let other = Request::new(b"step", b"/data/b.bam", Perms::READ);
 /// assert_eq!(policy.ask(&other)?.granted, Perms::NONE);
 /// # Ok::<(), Refusal>(())
 /// ```
@@ -56,7 +79,8 @@ impl Policy {
     ///
     /// # Errors
     ///
-    /// A text that the rules refuse gives the refusal's number and line.
+    /// A text that the rules refuse gives the refusal's number, line and
+    /// column.
     pub fn read(text: impl Into<Vec<u8>>) -> Result<Policy, Refusal> {
         Policy::read_within(text, ffi::RULES)
     }

@@ -74,9 +74,10 @@ fn in_every_room(text: &[u8]) -> Result<(), String> {
         let expected = reference::text::read_within(text, room);
         let expected = expected
             .map(|file| file.rules)
-            .map_err(|r| (r.number, r.line));
-        let given = Policy::read_within(text, room);
-        let given = given.map(|p| p.rules()).map_err(|r| (r.number, r.line));
+            .map_err(|r| (r.number, r.line, r.column));
+        let given = Policy::read_within(text, room)
+            .map(|policy| policy.rules())
+            .map_err(|r| (r.number, r.line, r.column));
         if given != expected {
             return Err(format!("{room}: {expected:?}, the library {given:?}"));
         }
@@ -108,9 +109,59 @@ fn spread() {
         "recorded",
         "target",
     ];
+    let others = others.into_iter().chain(PLACES.iter().copied());
     for kind in wanted.chain(others.map(String::from)) {
         assert!(spread.of(&kind) >= 10, "{kind}: {}", spread.of(&kind));
     }
+}
+
+/// Places of refusals that the generator reaches.
+const PLACES: &[&str] = &[
+    "at the end behind an LF, 4",
+    "at the end of a line, 4",
+    "at an assigned name, 4",
+    "at an assigned name, 6",
+    "at an assigned name, 9",
+    "at `@{`, 4",
+    "at `=`, 4",
+    "at `+=`, 4",
+    "at NUL, 4",
+    "at a quote, 4",
+    "at a quote, 5",
+    "at a quote, 6",
+    "at a quote, 7",
+    "at a quote, 9",
+    "at a quote, 10",
+    "at `#`, 5",
+    "at `->`, 8",
+    "behind a CR",
+    "column over 255",
+    "column over 65535",
+];
+
+/// What a text is refused at, where it is no plain word.
+fn place(front: &[u8], back: &[u8]) -> Option<&'static str> {
+    let marks: [(&[u8], &str); 7] = [
+        (b"@{", "`@{`"),
+        (b"=", "`=`"),
+        (b"+=", "`+=`"),
+        (b"\0", "NUL"),
+        (b"\"", "a quote"),
+        (b"#", "`#`"),
+        (b"->", "`->`"),
+    ];
+    if back.is_empty() {
+        return Some(if front.ends_with(b"\n") {
+            "the end behind an LF"
+        } else {
+            "the end of a line"
+        });
+    }
+    if front.ends_with(b"@{") {
+        return Some("an assigned name");
+    }
+    let mark = marks.iter().find(|(mark, _)| back.starts_with(mark));
+    mark.map(|(_, name)| *name)
 }
 
 /// How many answers there are of each kind.
@@ -128,7 +179,10 @@ impl Spread {
 
     fn count(&mut self, request: &Request, answer: &Result<Answer, Refusal>) {
         let answer = match answer {
-            Err(refusal) => return self.add(format!("refused {:2}", refusal.number)),
+            Err(refusal) => {
+                self.add(format!("refused {:2}", refusal.number));
+                return self.count_place(&request.text, refusal);
+            }
             Ok(answer) => answer,
         };
         self.add("answered");
@@ -149,6 +203,38 @@ impl Spread {
             Execute::Conflict => "execute conflict".into(),
             Execute::Mode(mode) => format!("execute {mode}"),
         });
+    }
+
+    /// What stands where the text is refused.
+    fn count_place(&mut self, text: &[u8], refusal: &Refusal) {
+        let Refusal {
+            number,
+            line,
+            column,
+        } = *refusal;
+        assert_eq!(line == 0, column == 0, "{refusal:?}");
+        if line == 0 {
+            return;
+        }
+        let mut lines = text.split_inclusive(|b| *b == b'\n');
+        let start: usize = lines
+            .by_ref()
+            .take(line as usize - 1)
+            .map(<[u8]>::len)
+            .sum();
+        let (front, back) = text.split_at(start + column as usize - 1);
+        assert!(!front[start..].contains(&b'\n'), "{refusal:?}");
+        if front[start..].contains(&b'\r') {
+            self.add("behind a CR");
+        }
+        for over in [255, 65_535] {
+            if column > over {
+                self.add(format!("column over {over}"));
+            }
+        }
+        if let Some(place) = place(front, back) {
+            self.add(format!("at {place}, {number}"));
+        }
     }
 
     fn print(&self) {

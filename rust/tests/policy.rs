@@ -1,6 +1,6 @@
 //! Reading once and asking often: every room, two threads, another text.
 
-use sidluqethe::{decide, Perms, Policy, Refusal, Request};
+use sidluqethe::{decide, Perms, Policy, Request};
 use std::thread;
 
 /// Two profiles, of two rules and of one.
@@ -11,15 +11,6 @@ profile one {
 }
 /two { /bin/cat ix, }
 ";
-
-fn request<'a>(profile: &'a [u8], path: &'a [u8], asked: Perms) -> Request<'a> {
-    Request {
-        profile,
-        path,
-        asked,
-        owner: false,
-    }
-}
 
 #[test]
 fn a_policy_says_what_it_has_read() {
@@ -36,10 +27,13 @@ fn a_policy_says_what_it_has_read() {
 
 #[test]
 fn room_for_fewer_rules_is_told_at_the_first_that_finds_none() {
-    let nine = |line| Refusal { number: 9, line };
-    assert_eq!(Policy::read_within(TEXT, 0).unwrap_err(), nine(3));
-    assert_eq!(Policy::read_within(TEXT, 1).unwrap_err(), nine(4));
-    assert_eq!(Policy::read_within(TEXT, 2).unwrap_err(), nine(6));
+    let refused = |room| {
+        let refusal = Policy::read_within(TEXT, room).unwrap_err();
+        (refusal.number, refusal.line, refusal.column)
+    };
+    assert_eq!(refused(0), (9, 3, 3));
+    assert_eq!(refused(1), (9, 4, 8));
+    assert_eq!(refused(2), (9, 6, 8));
     assert_eq!(Policy::read_within(TEXT, 3).unwrap().rules(), 3);
     assert_eq!(Policy::read_within(TEXT, 9_999).unwrap().rules(), 3);
     // 4 and 5 at that place come before it, 7 after it.
@@ -52,11 +46,22 @@ fn room_for_fewer_rules_is_told_at_the_first_that_finds_none() {
 }
 
 #[test]
+fn the_owner_mark_counts() {
+    let policy = Policy::read("/p { owner /a r, }").unwrap();
+    let request = Request::new(b"/p", b"/a", Perms::READ);
+    assert_eq!(policy.ask(&request).unwrap().granted, Perms::NONE);
+    let own = policy.ask(&request.owner(true)).unwrap();
+    assert_eq!(own.granted, Perms::READ);
+}
+
+#[test]
 fn refusals_come_in_their_order() {
     let policy = Policy::read(TEXT).unwrap();
     let number = |name: &[u8], path: &[u8], asked| {
-        let refusal = policy.ask(&request(name, path, Perms(asked))).unwrap_err();
-        assert_eq!(refusal.line, 0);
+        let refusal = policy
+            .ask(&Request::new(name, path, Perms(asked)))
+            .unwrap_err();
+        assert_eq!((refusal.line, refusal.column), (0, 0));
         refusal.number
     };
     assert_eq!(number(b"x", b"a", 0), 2);
@@ -77,7 +82,9 @@ fn threads_share_a_policy() {
         .collect();
     let work = || {
         let granted = |path: &&Vec<u8>| {
-            let answer = policy.ask(&request(b"one", path, Perms::READ)).unwrap();
+            let answer = policy
+                .ask(&Request::new(b"one", path, Perms::READ))
+                .unwrap();
             answer.granted == Perms::READ
         };
         paths.iter().filter(granted).count()
@@ -95,7 +102,7 @@ fn asking_gives_the_answers_of_decide() {
     for name in [&b"one"[..], b"/two", b"three"] {
         for path in [&b"/a/x"[..], b"/b/x", b"/b/y", b"/bin/cat", b"", b"/b//x"] {
             for asked in [0, 1, 64, 65, 127, 128] {
-                let by_policy = policy.ask(&request(name, path, Perms(asked)));
+                let by_policy = policy.ask(&Request::new(name, path, Perms(asked)));
                 let by_text = decide(TEXT.as_bytes(), name, path, Perms(asked), false);
                 assert_eq!(by_policy, by_text);
             }

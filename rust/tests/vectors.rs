@@ -50,7 +50,7 @@ fn lines(bytes: &[u8]) -> Vec<&[u8]> {
     end.split(|b| *b == b'\n').collect()
 }
 
-/// Fields 6 to 9 of a stored answer, which has its target in plain bytes.
+/// The fields from 6 of a stored answer, which has its target in plain bytes.
 fn expected(line: &[u8]) -> String {
     let tab = line.iter().rposition(|b| *b == b'\t').expect("a tab");
     let (front, target) = (&line[..=tab], &line[tab + 1..]);

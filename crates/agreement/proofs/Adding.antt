@@ -6,6 +6,7 @@ use mathlib.Core.Bool.{Bool, true, false, not, _&&_, and-false}
 use lib.ListN.{length}
 use lib.Dec.{eqb, ltb}
 use Rattle.scan.specs.Bytes.{same}
+use Rattle.text.specs.Reading.{nowhere}
 use Rattle.request.specs.Requests.{badAsked, badPath}
 use Rattle.family.specs.Members.{those}
 use Rattle.family.proofs.Lists.{those-append}
@@ -52,11 +53,11 @@ module _ (vs : List Variable) (q : Access) (asked : ℕ) (n : List ℕ) (es fs :
 abbrev pub checked : (text path : List ℕ) → (asked : ℕ) → Answer → Answer
 checked text path asked a =
     elim (ltb 65535 (length text)) as (λ _. Answer) [
-      | true ↦ refusal 1 0
+      | true ↦ refusal (nowhere 1)
       | false ↦
           elim (badPath path) as (λ _. Answer) [
-            | true ↦ refusal 2 0
-            | false ↦ elim (badAsked asked) as (λ _. Answer) [ true ↦ refusal 3 0 | false ↦ a ]
+            | true ↦ refusal (nowhere 2)
+            | false ↦ elim (badAsked asked) as (λ _. Answer) [ true ↦ refusal (nowhere 3) | false ↦ a ]
           ]
     ]
 

@@ -10,7 +10,7 @@ use lib.Dec.{ltb}
 use borrow.Author.Tests.{eq-eqb, le-ltb, ltb-false, ne-eqb}
 use Rattle.scan.specs.Bytes.{every, same, if_then_else_}
 use Rattle.scan.proofs.Bools.{and-left, and-right}
-use Rattle.text.specs.Reading.{Reading, Read, Refused, lineOf}
+use Rattle.text.specs.Reading.{Reading, Read, Refused, nowhere, refusalAt}
 use Rattle.family.specs.Members.{those}
 use Rattle.family.proofs.Lists.{those-append, those-without}
 use Rattle.pattern.specs.Expansions.{Variable}
@@ -137,7 +137,7 @@ pub read-file : (head rooms : ℕ) (text : List ℕ) (p : Policy) → readOf hea
 unfolding readOf
 read-file head rooms text p e = go (ltb head 1256) (ltb 65535 (length text)) refl e
   where
-    go : (a b : Bool) → ltb 65535 (length text) ≡ b → (if a then Short else if b then Rejected 1 0 else toldOf text (fileWithin (min 512 rooms) text)) ≡ Accepted p
+    go : (a b : Bool) → ltb 65535 (length text) ≡ b → (if a then Short else if b then Rejected (nowhere 1) else toldOf text (fileWithin (min 512 rooms) text)) ≡ Accepted p
         → (length text ≤ 65535) × (f : File) × (fileWithin (min 512 rooms) text ≡ Read f) × (p ≡ policyOf f)
     go true b g h = let z : _≡_ {A = ℕ} 0 1 = cc in absurd (omega arith)
     go false true g h = let z : _≡_ {A = ℕ} 0 1 = cc in absurd (omega arith)
@@ -159,7 +159,7 @@ module _ (head rooms : ℕ) (text : List ℕ) (f : File) (h : 1256 ≤ head) (l 
       told ∙ ap (toldOf text) (room-enough 512 text f within (min 512 rooms) (omega arith))
 
   -- "If the table has fewer records than the file has rules, refusal 9"
-  pub read-refuses : rooms < rulesIn (f .profiles) → (place : ℕ) × (fileWithin (min 512 rooms) text ≡ Refused 9 place) × (readOf head rooms text ≡ Rejected 9 (lineOf text place))
+  pub read-refuses : rooms < rulesIn (f .profiles) → (place : ℕ) × (fileWithin (min 512 rooms) text ≡ Refused 9 place) × (readOf head rooms text ≡ Rejected (refusalAt text 9 place))
   read-refuses r =
       let w = room-short 512 text f within (min 512 rooms) (omega arith) in
       (w .0, w .1, told ∙ ap (toldOf text) (w .1))

@@ -63,14 +63,14 @@ target-good tr s at = go (standsAt (bytes "->") s at)
           | false ↦ Read (record { target = []; next = at })
           | true ↦
               refuseIf (not (takesTarget tr)) 8 (standing s at) >>= λ _.
-              wanted s (tokenAt comma s (standing s at + 2)) >>= λ t.
+              wanted (tokenAt comma s (standing s at + 2)) >>= λ t.
               refuseIf (not (nameForm (t .quoted) (t .content))) 4 (t .start) >>= λ _.
               refuseIf (ltb 255 (length (t .content))) 9 (t .start) >>= λ _. Read (record { target = t .content; next = t .next })
         ])
     go false = kept refl
     go true =
         after-test _ _ _ _ λ a.
-        next _ (wanted s (tokenAt comma s (standing s at + 2))) λ t.
+        next _ (wanted (tokenAt comma s (standing s at + 2))) λ t.
         after-test _ _ _ _ λ b.
         after-test _ _ _ _ λ c.
         kept (name-good tr (t .content) (not-false _ a) (name-quoted (t .quoted) (t .content) (not-false _ b)) (le-leb (length (t .content)) 255 (ltb-false 255 (length (t .content)) c)))

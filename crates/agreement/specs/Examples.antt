@@ -22,7 +22,7 @@ pub one-room : fileWithin 1 (bytes ordered) ≡ Refused 9 11
 unfolding computed
 one-room = refl
 
-pub one-room-told : readOf 1256 1 (bytes ordered) ≡ Rejected 9 1
+pub one-room-told : readOf 1256 1 (bytes ordered) ≡ Rejected (record { number = 9; line = 1; column = 12 })
 unfolding computed readOf
 one-room-told = refl
 

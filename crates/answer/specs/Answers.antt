@@ -10,6 +10,7 @@ use Rattle.modes.specs.declared.Execute.{Execute}
 use Rattle.modes.specs.declared.Execute.the-variants.{NotAsked, Denied, Conflict, ByMode}
 use Rattle.family.specs.Members.{preferred, Choice, None, Single, Several, choice}
 use Rattle.findings.specs.Findings.{Move, Findings, sameMove}
+use Rattle.text.specs.declared.Refusal.{Refusal}
 use Rattle.answer.specs.declared.Answer.{Answer}
 use Rattle.answer.specs.declared.Target.{Target}
 use Rattle.answer.specs.declared.Verdict.the-variants as verdict
@@ -88,10 +89,10 @@ answerFrom f asked =
 -- ---- refusals
 
 -- "Each returns granted 0, recorded 0, not asked, empty target."
-abbrev pub refusal : (number line : ℕ) → Answer
-refusal n line =
+abbrev pub refusal : Refusal → Answer
+refusal r =
     record {
-      verdict = verdict.Refused (record { number = n; line = line });
+      verdict = verdict.Refused r;
       granted = perms 0;
       recorded = perms 0;
       execute = NotAsked;

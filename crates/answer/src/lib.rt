@@ -173,11 +173,11 @@ pub fn finish(text: &[u8], found: Findings, asked: Perms) -> Answer
 }
 
 // A refusal.
-pub fn refused(number: u8, line: usize) -> Answer
-    ensures { λ r. ⌜ r ≡ refusal number line ⌝ }
+pub fn refused(why: Refusal) -> Answer
+    ensures { λ r. ⌜ r ≡ refusal why ⌝ }
 {
     Answer {
-        verdict: Verdict::Refused(Refusal { number, line }),
+        verdict: Verdict::Refused(why),
         granted: Perms(0),
         recorded: Perms(0),
         execute: Execute::NotAsked,

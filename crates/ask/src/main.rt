@@ -258,7 +258,7 @@ fn line_end(text: &[u8], at: usize) -> usize
     i
 }
 
-// Writes the refusal; for one with a line the file, the line's number and the line.
+// Writes the refusal; for one with a place the file, the numbers of line and column, and the line.
 fn put_refusal(file: &[u8], text: &[u8], refusal: Refusal) {
     let line = refusal.line;
     put(b"refused   no. ");
@@ -270,6 +270,8 @@ fn put_refusal(file: &[u8], text: &[u8], refusal: Refusal) {
         put(file);
         put(b":");
         put_number(line as u64);
+        put(b":");
+        put_number(refusal.column as u64);
         put(b": ");
         let start = line_start(text, line);
         let end = line_end(text, start);

@@ -10,6 +10,7 @@ use lib.Dec.{eqb, ltb, leb}
 use borrow.Author.Tests.{eqb-true, ne-eqb, ltb-true, ltb-false, le-leb}
 use Rattle.scan.specs.Bytes.{same, some, span, if_then_else_}
 use Rattle.scan.proofs.Bools.{and-left}
+use Rattle.text.specs.Reading.{nowhere}
 use Rattle.perms.specs.declared.Perms.{Perms}
 use Rattle.request.specs.Requests.{badAsked, badPath}
 use Rattle.request.proofs.Laws.{path-short}
@@ -38,7 +39,7 @@ use Rattle.answer.proofs.Laws.{answer-gathered}
 use Rattle.weigh.specs.Weigh.{Fits, weighedBy}
 use Rattle.weigh.proofs.Sound.{Sound}
 use Rattle.weigh.proofs.Laws.{weigh-one, weigh-not-owner, weigh-unmatched, weigh-denied, weigh-allowed}
-use Rattle.entries.specs.Entries.{Entry, Policy, entryOf, namesFrom, policyIn}
+use Rattle.entries.specs.Entries.{Entry, entryOf, namesFrom, policyIn}
 use Rattle.entries.specs.declared.Record.{Record}
 use Rattle.asking.specs.Asking.{answerAmong, askedOf, counts, good, goodEnd, goodTarget, rulesFor}
 use Rattle.asking.specs.Steps.{concluded, gatheredIn, numberFrom, outOf, queryBy, queryOf, refusedFor, refusedQuery, weighedEntry}
@@ -132,7 +133,7 @@ module _ (text : List ℕ) (vs : List Variable) (q : Access) (fits : Fits text (
 
 -- by the number of the name
 abbrev numbered : List Variable → Access → (asked : ℕ) → List Entry → ℕ → Answer
-numbered vs q asked es zero = refusal 11 0
+numbered vs q asked es zero = refusal (nowhere 11)
 numbered vs q asked es (suc j) = answerFrom (findings vs q (rulesFor vs (q .path) j es)) asked
 
 among-number : (vs : List Variable) (q : Access) (asked : ℕ) (n : List ℕ) (es : List Entry) (i : ℕ) (names : List (List ℕ)) →
@@ -190,13 +191,13 @@ module _ (text head : List ℕ) (table : List Record) (n path : List ℕ) (asked
           walked (if eqb (if a then 1 else if b then 2 else if c then 3 else 0) 0 then queryBy (numberFrom n 0 names) head (length table) path asked owner
           else refusedQuery (if a then 1 else if b then 2 else if c then 3 else 0) path asked owner)
           ≡ elim a [
-            | true ↦ refusal 1 0
+            | true ↦ refusal (nowhere 1)
             | false ↦
                 elim b [
-                  | true ↦ refusal 2 0
+                  | true ↦ refusal (nowhere 2)
                   | false ↦
                       elim c [
-                        | true ↦ refusal 3 0
+                        | true ↦ refusal (nowhere 3)
                         | false ↦ answerAmong (env text head (getD head 1248 0)) q (asked .0) n (map (entryOf text) (take (getD head 1250 0) table)) 0 names
                       ]
                 ]

@@ -5,6 +5,7 @@ use mathlib.Core.Bool.{Bool, true, false, not, _&&_}
 use lib.ListN.{length}
 use lib.Dec.{eqb, ltb, leb}
 use Rattle.scan.specs.Bytes.{same}
+use Rattle.text.specs.Reading.{nowhere}
 use Rattle.request.specs.Requests.{badAsked, badPath}
 use Rattle.names.specs.Names.{nameForm}
 use Rattle.modes.specs.declared.Transition.{Transition}
@@ -41,7 +42,7 @@ rulesFor vs path i es = map (λ (e : Entry). e .rule) (those (counts vs path i) 
 
 -- the answer of the first profile of that name, from profile i on; 11: "no profile with that name"
 unfoldable pub answerAmong : List Variable → Access → (asked : ℕ) → (name : List ℕ) → List Entry → (i : ℕ) → List (List ℕ) → Answer
-answerAmong vs q asked n es i [] = refusal 11 0
+answerAmong vs q asked n es i [] = refusal (nowhere 11)
 answerAmong vs q asked n es i (m ∷ ms) =
     elim (same m n) [
       | true ↦ answerFrom (findings vs q (rulesFor vs (q .path) i es)) asked
@@ -52,13 +53,13 @@ answerAmong vs q asked n es i (m ∷ ms) =
 unfoldable pub askedOf : (text : List ℕ) → Policy → (name path : List ℕ) (asked : ℕ) (owner : Bool) → Answer
 askedOf text p n path asked owner =
     elim (ltb 65535 (length text)) [
-      | true ↦ refusal 1 0
+      | true ↦ refusal (nowhere 1)
       | false ↦
           elim (badPath path) [
-            | true ↦ refusal 2 0
+            | true ↦ refusal (nowhere 2)
             | false ↦
                 elim (badAsked asked) [
-                  | true ↦ refusal 3 0
+                  | true ↦ refusal (nowhere 3)
                   | false ↦
                       answerAmong (p .variables) (record { path = path; owner = owner }) asked n (p .entries) 0 (p .names)
                 ]

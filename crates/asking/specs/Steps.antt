@@ -5,6 +5,7 @@ use mathlib.Core.Bool.{Bool, true, false, not, _||_}
 use lib.ListN.{length, getD, drop}
 use lib.Dec.{eqb, ltb}
 use Rattle.scan.specs.Bytes.{same, if_then_else_}
+use Rattle.text.specs.Reading.{nowhere}
 use Rattle.perms.specs.declared.Perms.{Perms}
 use Rattle.request.specs.Requests.{badAsked, badPath}
 use Rattle.pattern.specs.Expansions.{Variable}
@@ -73,4 +74,4 @@ gatheredIn text vs q words i (e ∷ es) w =
 
 -- the answer in the end
 unfoldable pub concluded : Query → Weighed → Answer
-concluded q w = if eqb (q .refused) 0 then answerTo w (q .asked .0) else refusal (q .refused) 0
+concluded q w = if eqb (q .refused) 0 then answerTo w (q .asked .0) else refusal (nowhere (q .refused))

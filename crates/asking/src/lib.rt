@@ -23,6 +23,7 @@ use scan::least;
 use scan::same_bytes;
 use scan::span;
 use text::Span;
+use text::nowhere;
 use variables::cell;
 use words::Words;
 use words::words_of;
@@ -215,5 +216,5 @@ pub fn conclude(text: &[u8], query: Query, found: Findings) -> Answer
         let asked = query.asked;
         return finish(text, found, asked);
     }
-    refused(query.refused, 0)
+    refused(nowhere(query.refused))
 }

@@ -33,7 +33,7 @@ fn rules_end(text: &[u8], count: usize, at: Place) -> RulesRead
     let q = rule::qualifiers_at(text, at);
     let token = rule::pattern_at(text, q);
     let Read::Found(t) = token else {
-        return RulesRead::Refused(stop_of(text, token));
+        return RulesRead::Refused(stop_of(token));
     };
     let start = t.start;
     RulesRead::Refused(Stop {

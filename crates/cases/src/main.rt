@@ -12,6 +12,7 @@ use print::put_execute;
 use print::put_number;
 use print::put_target;
 use text::Refusal;
+use text::nowhere;
 ghost use Prim.Native.Nat.{_≤_, _<_};
 ghost use Rattle.io.specs.Counts.{Counts};
 
@@ -105,6 +106,8 @@ fn put_answer(a: Answer) {
             put_number(refusal.number as u64);
             put(b"\t");
             put_number(refusal.line as u64);
+            put(b"\t");
+            put_number(refusal.column as u64);
             put(b"\t-\n");
         }
         Verdict::Answered => {
@@ -120,10 +123,10 @@ fn put_answer(a: Answer) {
     }
 }
 
-// The refusal; number and line are 0 where there is none.
+// The refusal; all 0 where there is none.
 fn refusal_of(verdict: Verdict) -> Refusal {
     match verdict {
-        Verdict::Answered => Refusal { number: 0, line: 0 },
+        Verdict::Answered => nowhere(0),
         Verdict::Refused(refusal) => refusal,
     }
 }
@@ -147,7 +150,7 @@ fn by_memory(
     }
     let refusal = got.refusal;
     if got.refused {
-        return refused(refusal.number, refusal.line);
+        return refused(refusal);
     }
     a
 }
@@ -165,6 +168,7 @@ fn is_same(a: Answer, b: Answer) -> bool {
     let same_target = scan::same_bytes(&target.bytes, &named.bytes) & (target.len == named.len);
     (first.number == second.number)
         & (first.line == second.line)
+        & (first.column == second.column)
         & (a.granted.0 == b.granted.0)
         & (a.recorded.0 == b.recorded.0)
         & (by_one.number() == by_other.number())

@@ -3,13 +3,11 @@ use Prim.Native.Nat.{ℕ, zero, suc, _+_, _*_, _≤_, _<_}
 use Prim.Native.Char.{code}
 use mathlib.Core.Path.{_≡_, refl, sym, ap, _∙_}
 use mathlib.Core.List.{List}
-use mathlib.Core.Bool.{Bool, true, false, not, _||_, false≢true}
+use mathlib.Core.Bool.{Bool, true, false, not}
 use lib.ListN.{length, getD}
-use lib.Dec.{ltb}
-use borrow.Author.Tests.{ltb-false, le-leb, lt-ltb, le-ltb}
-use Rattle.scan.specs.Bytes.{begins, holds, isEmpty, same}
-use Rattle.text.specs.Reading.{Reading, Read, Refused}
-use Rattle.blanks.specs.Blanks.{nul}
+use borrow.Author.Tests.{le-leb, lt-ltb, le-ltb}
+use Rattle.scan.specs.Bytes.{same}
+use Rattle.text.specs.Reading.{Reading, Read, Refused, nowhere}
 use Rattle.pattern.specs.Expansions.{Variable}
 use Rattle.pattern.specs.Faults.{patternFault}
 use Rattle.pattern.specs.Table.{bytesAt, env}
@@ -52,7 +50,7 @@ found-none s t i name = refl
 -- the answer of the rules that were found
 abbrev pub answerOfFound : List Variable → Access → (asked : ℕ) → List ℕ → Found → Answer
 answerOfFound vs q asked s (Rules at count) = answerFrom (findings vs q (rulesFrom count (patternFault vs) s (at .0))) asked
-answerOfFound vs q asked s Nowhere = refusal 11 0
+answerOfFound vs q asked s Nowhere = refusal (nowhere 11)
 
 pub answer-found : (vs : List Variable) (q : Access) (asked : ℕ) (s t : List ℕ) (k i : ℕ) (name : List ℕ)
     → answerIn vs q asked name (profilesFrom vs s t k i) ≡ answerOfFound vs q asked s (foundFrom s t k i name)
@@ -78,7 +76,7 @@ answer-by vs q asked s t k name r e x f = answer-found vs q asked s t k 0 name �
 
 abbrev pub answerOfJudged : Access → (asked : ℕ) → (name : List ℕ) → Judged → Answer
 answerOfJudged q asked n (Accepted vs ps) = answerIn vs q asked n ps
-answerOfJudged q asked n (Rejected number line) = refusal number line
+answerOfJudged q asked n (Rejected r) = refusal r
 
 pub answer-judged : (s : List ℕ) (x : Reading File) (n : List ℕ) (q : Access) (asked : ℕ) → answerBy s x n q asked ≡ answerOfJudged q asked n (judgedOf s x)
 unfolding judgedOf
@@ -88,15 +86,15 @@ answer-judged s (Refused number place) n q asked = refl
 -- ---- the whole answer, by the order of refusals
 
 module _ (text n path : List ℕ) (asked : ℕ) (owner : Bool) where
-  pub answer-long : 65535 < length text → answerOf text n path asked owner ≡ refusal 1 0
+  pub answer-long : 65535 < length text → answerOf text n path asked owner ≡ refusal (nowhere 1)
   unfolding answerOf
   answer-long h = rw (lt-ltb 65535 (length text) h, answerOf)
 
-  pub answer-path : length text ≤ 65535 → badPath path ≡ true → answerOf text n path asked owner ≡ refusal 2 0
+  pub answer-path : length text ≤ 65535 → badPath path ≡ true → answerOf text n path asked owner ≡ refusal (nowhere 2)
   unfolding answerOf
   answer-path h e = rw (le-ltb 65535 (length text) h, answerOf, e)
 
-  pub answer-asked : length text ≤ 65535 → badPath path ≡ false → badAsked asked ≡ true → answerOf text n path asked owner ≡ refusal 3 0
+  pub answer-asked : length text ≤ 65535 → badPath path ≡ false → badAsked asked ≡ true → answerOf text n path asked owner ≡ refusal (nowhere 3)
   unfolding answerOf
   answer-asked h e k = rw (le-ltb 65535 (length text) h, answerOf, e, k)
 
@@ -111,9 +109,9 @@ module _ (text n path : List ℕ) (asked : ℕ) (owner : Bool) where
         rw (le-ltb 65535 (length text) h, answerOf, e, k)
         (answer-judged text (fileOf text) n access asked ∙ ap (answerOfJudged access asked n) (sym g ∙ f))
 
-    pub answer-rejected : r .refused ≡ true → answerOf text n path asked owner ≡ refusal (r .refusal .number) (r .refusal .line)
+    pub answer-rejected : r .refused ≡ true → answerOf text n path asked owner ≡ refusal (r .refusal)
     unfolding seenFile
-    answer-rejected f = answer-read {j = Rejected (r .refusal .number) (r .refusal .line)} (rw f)
+    answer-rejected f = answer-read {j = Rejected (r .refusal)} (rw f)
 
     pub answer-accepted : r .refused ≡ false → {a : Answer} →
         a ≡ answerIn (env text t (r .vars)) access asked n (profilesFrom (env text t (r .vars)) text (r .profiles) (r .count) 0) →

@@ -8,6 +8,7 @@ use profile::read;
 use request::is_bad_asked;
 use request::is_bad_path;
 use text::Place;
+use text::nowhere;
 use weigh::findings_of;
 ghost use mathlib.Core.Path.{_≡_};
 ghost use Prim.Native.Nat.{_≤_};
@@ -70,7 +71,7 @@ fn answer_in(
 {
     let r = find(text, profiles, count, name);
     let Found::Rules { at, count: rules } = r else {
-        return refused(NO_PROFILE, 0);
+        return refused(nowhere(NO_PROFILE));
     };
     let found = findings_of(text, vars, n, path, owner, rules, at);
     finish(text, found, asked)
@@ -81,19 +82,19 @@ pub fn decide(text: &[u8], name: &[u8], path: &[u8], asked: Perms, owner: bool) 
     ensures { λ r. ⌜ r ≡ answerOf (now (text .entry)) (now (name .entry)) (now (path .entry)) (asked .0) owner ⌝ }
 {
     if 65535 < text.len() {
-        return refused(LONG_TEXT, 0);
+        return refused(nowhere(LONG_TEXT));
     }
     if is_bad_path(path) {
-        return refused(BAD_PATH, 0);
+        return refused(nowhere(BAD_PATH));
     }
     if is_bad_asked(asked) {
-        return refused(BAD_ASKED, 0);
+        return refused(nowhere(BAD_ASKED));
     }
     let mut vars = [0usize; 1120];
     let f = read(text, &mut vars, RULES);
     let refusal = f.refusal;
     if f.refused {
-        return refused(refusal.number, refusal.line);
+        return refused(refusal);
     }
     answer_in(
         text,

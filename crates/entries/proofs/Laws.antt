@@ -9,7 +9,7 @@ use native.Mathlib.Nat.{min-eq-right, min-le-left, min-le-right}
 use native.Mathlib.Omega.{arith}
 use borrow.Author.Tests.{lt-ltb, le-ltb}
 use Rattle.scan.specs.Bytes.{span}
-use Rattle.text.specs.Reading.{Reading, Read, Refused}
+use Rattle.text.specs.Reading.{Reading, Read, Refused, nowhere}
 use Rattle.pattern.specs.Expansions.{Variable}
 use Rattle.pattern.specs.Table.{bytesAt, env, valuesFrom, variables}
 use Rattle.profile.specs.Profiles.{File, Profile, fileWithin, ruleCount, rulesIn}
@@ -146,7 +146,7 @@ module _ (text head v p rest : List ℕ) (n k m : ℕ) (i : length v ≡ 1120) (
 
 abbrev toldJudged : ReadJudged → Told
 toldJudged (Taken vs ps) = Accepted (policyBy vs ps)
-toldJudged (NotTaken n l) = Rejected n l
+toldJudged (NotTaken r) = Rejected r
 
 told-judged : (s : List ℕ) (x : Reading File) → toldOf s x ≡ toldJudged (judgedOf s x)
 unfolding judgedOf policyOf
@@ -155,7 +155,7 @@ told-judged s (Refused n p) = refl
 
 abbrev countJudged : ReadJudged → ℕ
 countJudged (Taken vs ps) = rulesIn ps
-countJudged (NotTaken n l) = 0
+countJudged (NotTaken r) = 0
 
 count-judged : (s : List ℕ) (x : Reading File) → ruleCount x ≡ countJudged (judgedOf s x)
 unfolding judgedOf ruleCount
@@ -172,9 +172,9 @@ module _ (text head : List ℕ) (rooms : ℕ) (r : code.Reading) where
   judged-short h a c = nothing (rw (a, lt-ltb (length head) 1256 h)) (rw a) c
 
   module _ (big : 1256 ≤ length head) (whole : r .short ≡ false) where
-    pub judged-long : 65535 < length text → r .refused ≡ true → r .refusal .number ≡ 1 → r .refusal .line ≡ 0 → r .count ≡ 0 → Judged text head rooms r head
+    pub judged-long : 65535 < length text → r .refused ≡ true → r .refusal ≡ nowhere 1 → r .count ≡ 0 → Judged text head rooms r head
     unfolding toldBy readOf
-    judged-long h b x y c = nothing (rw (whole, b, x, y, le-ltb (length head) 1256 big, lt-ltb 65535 (length text) h)) (rw (whole, b)) c
+    judged-long h b x c = nothing (rw (whole, b, x, le-ltb (length head) 1256 big, lt-ltb 65535 (length text) h)) (rw (whole, b)) c
 
     module _ (short : length text ≤ 65535) (v : List ℕ) (f : FileRead) (g : seenFile text v f ≡ judgedOf text (fileWithin (min 512 rooms) text)) where
       abbrev file : Reading File

@@ -7,6 +7,7 @@ use lib.ListN.{length, getD, drop}
 use lib.Dec.{ltb}
 use Rattle.scan.specs.Bytes.{if_then_else_}
 use Rattle.text.specs.Places.{place}
+use Rattle.text.specs.declared.Refusal.{Refusal}
 use Rattle.pattern.specs.Table.{env}
 use Rattle.statement.specs.Steps.{rulesFrom}
 use Rattle.profile.specs.Places.{profilesAgain}
@@ -54,8 +55,8 @@ policyAhead text head =
     }
 
 -- what is told of a text that is refused
-abbrev pub refusedReading : (number line : ℕ) → Reading
-refusedReading n l = record { short = false; refused = true; refusal = record { number = n; line = l }; count = 0 }
+abbrev pub refusedReading : Refusal → Reading
+refusedReading r = record { short = false; refused = true; refusal = r; count = 0 }
 
 -- the tables of variables and profiles and three counts, one behind the other at the start of a head
 pub record Laid (head vars profiles counts head′ : List ℕ) : Type 0 where

@@ -4,7 +4,8 @@ use mathlib.Core.List.{List, [], _∷_, _++_, map}
 use lib.ListN.{length, getD, take, drop}
 use lib.Dec.{ltb}
 use Rattle.scan.specs.Bytes.{if_then_else_}
-use Rattle.text.specs.Reading.{Reading, Read, Refused, lineOf}
+use Rattle.text.specs.Reading.{Reading, Read, Refused, nowhere, refusalAt}
+use Rattle.text.specs.declared.Refusal.{Refusal}
 use Rattle.pattern.specs.Expansions.{Variable}
 use Rattle.pattern.specs.Table.{bytesAt, env}
 use Rattle.rule.specs.Rules.{Rule}
@@ -69,18 +70,18 @@ policyIn text head table =
 
 -- ---- reading
 
--- a head that is too short is told; a text is rejected with a number and a line, or accepted
+-- a head that is too short is told; a text is rejected with a number, a line and a column, or accepted
 pub data Told : Type 0 where
   Short : Told
-  Rejected : (number line : ℕ) → Told
+  Rejected : Refusal → Told
   Accepted : Policy → Told
 
 abbrev pub toldOf : List ℕ → Reading File → Told
 toldOf s (Read f) = Accepted (policyOf f)
-toldOf s (Refused n p) = Rejected n (lineOf s p)
+toldOf s (Refused n p) = Rejected (refusalAt s n p)
 
 -- 1, then the text's own refusals; "If the table has fewer records than the file has rules, refusal 9 at the pattern of the first rule
 -- that found no place, in the order of one rule too many."
 unfoldable pub readOf : (head rooms : ℕ) → (text : List ℕ) → Told
 readOf head rooms text =
-    if ltb head 1256 then Short else if ltb 65535 (length text) then Rejected 1 0 else toldOf text (fileWithin (min 512 rooms) text)
+    if ltb head 1256 then Short else if ltb 65535 (length text) then Rejected (nowhere 1) else toldOf text (fileWithin (min 512 rooms) text)

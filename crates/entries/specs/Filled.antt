@@ -11,7 +11,7 @@ use Rattle.entries.specs.declared.Reading.{Reading}
 
 -- as the code tells it, with what is known where the text is accepted
 unfoldable pub toldBy : Reading → Policy → Told
-toldBy r p = if r .short then Short else if r .refused then Rejected (r .refusal .number) (r .refusal .line) else Accepted p
+toldBy r p = if r .short then Short else if r .refused then Rejected (r .refusal) else Accepted p
 
 -- what is written: nothing where the text is not accepted
 abbrev pub written : {A : Type 0} → Reading → (none all : A) → A

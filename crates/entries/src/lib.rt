@@ -9,6 +9,7 @@ use statement::rule_again;
 use text::Place;
 use text::Refusal;
 use text::Span;
+use text::nowhere;
 use variables::cell;
 use words::Front;
 use words::front_of;
@@ -75,13 +76,13 @@ fn keep(head: &mut [usize], vars: &[usize; 1120], profiles: &[usize; 128], count
 }
 
 // What is told of a text that is refused.
-fn refused(number: u8, line: usize) -> Reading
-    ensures { λ r. ⌜ r ≡ refusedReading number line ⌝ }
+fn refused(refusal: Refusal) -> Reading
+    ensures { λ r. ⌜ r ≡ refusedReading refusal ⌝ }
 {
     Reading {
         short: false,
         refused: true,
-        refusal: Refusal { number, line },
+        refusal,
         count: 0,
     }
 }
@@ -91,7 +92,7 @@ fn refused(number: u8, line: usize) -> Reading
 pub fn judge(text: &[u8], head: &mut [usize], rooms: usize) -> Reading
     ensures { λ r. ⌜ Judged (now (text .entry)) (now (head .entry)) rooms r (now (head .exit)) ⌝ }
 {
-    let none = Refusal { number: 0, line: 0 };
+    let none = nowhere(0);
     if head.len() < HEAD {
         return Reading {
             short: true,
@@ -101,13 +102,13 @@ pub fn judge(text: &[u8], head: &mut [usize], rooms: usize) -> Reading
         };
     }
     if 65535 < text.len() {
-        return refused(LONG_TEXT, 0);
+        return refused(nowhere(LONG_TEXT));
     }
     let mut vars = [0usize; 1120];
     let f = read(text, &mut vars, rooms);
     let refusal = f.refusal;
     if f.refused {
-        return refused(refusal.number, refusal.line);
+        return refused(refusal);
     }
     let counts = [f.vars, f.count, f.rules];
     keep(head, &vars, &f.profiles, &counts);

@@ -126,8 +126,8 @@ unfolding toldBy
 told-same r p q h = go (r .short) (r .refused) h
   where
     go : (a b : Bool) → ((a || b) ≡ false → p ≡ q) →
-        (if a then Short else if b then Rejected (r .refusal .number) (r .refusal .line) else Accepted p)
-        ≡ (if a then Short else if b then Rejected (r .refusal .number) (r .refusal .line) else Accepted q)
+        (if a then Short else if b then Rejected (r .refusal) else Accepted p)
+        ≡ (if a then Short else if b then Rejected (r .refusal) else Accepted q)
     go true b g = refl
     go false true g = refl
     go false false g = ap Accepted (g refl)

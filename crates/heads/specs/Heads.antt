@@ -23,11 +23,11 @@ unfoldable pub nameAt : List ℕ → ℕ → Reading Token
 nameAt s at =
     elim (ifWord (bytes "profile") at (tokenAt noStop s at) .found) [
       | true ↦ do
-        t ← wanted s (tokenAt brace s (ifWord (bytes "profile") at (tokenAt noStop s at) .next))
+        t ← wanted (tokenAt brace s (ifWord (bytes "profile") at (tokenAt noStop s at) .next))
         _ ← refuseIf (not (nameForm (t .quoted) (t .content))) 4 (t .start)
         Read t
       | false ↦ do
-        t ← wanted s (tokenAt brace s at)
+        t ← wanted (tokenAt brace s at)
         _ ← refuseIf (not (begins (code "/") (t .content) && nameForm (t .quoted) (t .content))) 4 (t .start)
         Read t
     ]
@@ -38,7 +38,7 @@ openAt s at =
     elim (standsAt (bytes "{") s at) [
       | true ↦ Read (standing s at + 1)
       | false ↦ do
-        t ← wanted s (tokenAt noStop s at)
+        t ← wanted (tokenAt noStop s at)
         Refused 5 (t .start)
     ]
 

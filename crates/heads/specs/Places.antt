@@ -20,7 +20,7 @@ use Rattle.heads.specs.declared.HeadRead.the-variants as head
 -- the name at a place, a token that ends at a blank or {; rooted says that it must begin with /
 unfoldable pub nameFrom : (rooted : Bool) → List ℕ → ℕ → Reading Token
 nameFrom rooted s at = do
-  t ← wanted s (tokenAt brace s at)
+  t ← wanted (tokenAt brace s at)
   _ ← refuseIf (not ((not rooted || begins (code "/") (t .content)) && nameForm (t .quoted) (t .content))) 4 (t .start)
   Read t
 

@@ -32,7 +32,7 @@ pub const PROFILES: usize = 32;
 
 // The name at a place, a token that ends at a blank or {; rooted says that it must begin with /.
 fn name_from(text: &[u8], rooted: bool, at: Place) -> Read
-    ensures { λ r. ⌜ wanted (now (text .entry)) (seen (now (text .entry)) r) ≡ nameFrom rooted (now (text .entry)) (at .0) ⌝ }
+    ensures { λ r. ⌜ wanted (seen (now (text .entry)) r) ≡ nameFrom rooted (now (text .entry)) (at .0) ⌝ }
 {
     let token = next_token(text, at, b'{');
     let Read::Found(t) = token else {
@@ -51,7 +51,7 @@ fn name_from(text: &[u8], rooted: bool, at: Place) -> Read
 
 // The token of a profile's name; without the word profile it begins with /.
 fn name_at(text: &[u8], at: Place) -> Read
-    ensures { λ r. ⌜ wanted (now (text .entry)) (seen (now (text .entry)) r) ≡ nameAt (now (text .entry)) (at .0) ⌝ }
+    ensures { λ r. ⌜ wanted (seen (now (text .entry)) r) ≡ nameAt (now (text .entry)) (at .0) ⌝ }
 {
     let token = next_token(text, at, 0);
     let Read::Found(t) = token else {
@@ -81,7 +81,7 @@ fn open_at(text: &[u8], at: Place) -> OpenRead
     }
     let token = next_token(text, at, 0);
     let Read::Found(t) = token else {
-        return OpenRead::Refused(stop_of(text, token));
+        return OpenRead::Refused(stop_of(token));
     };
     let start = t.start;
     OpenRead::Refused(Stop {
@@ -154,7 +154,7 @@ pub fn head_at(text: &[u8], table: &[usize; 128], n: usize, at: Place) -> HeadRe
     }
     let token = name_at(text, at);
     let Read::Found(t) = token else {
-        return HeadRead::Refused(stop_of(text, token));
+        return HeadRead::Refused(stop_of(token));
     };
     head_from(text, table, n, t)
 }

@@ -28,7 +28,7 @@ barred false w = notTaken w
 abbrev pub wordIs : (List ℕ → Bool) → Next → Bool
 wordIs p (Found t) = not (t .quoted) && p (t .content)
 wordIs p (Stopped n q) = false
-wordIs p End = false
+wordIs p (End q) = false
 
 -- the first word at a place is of the kind p: "a first word ends at a blank or comma"
 abbrev pub firstWord : (List ℕ → Bool) → List ℕ → ℕ → Bool

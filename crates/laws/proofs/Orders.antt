@@ -6,6 +6,7 @@ use mathlib.Core.Bool.{Bool, true}
 use mathlib.Core.Logic.{inl}
 use Rattle.scan.specs.Bytes.{every}
 use Rattle.scan.proofs.Bools.{and-left, and-right}
+use Rattle.text.specs.declared.Refusal.{Refusal}
 use Rattle.family.specs.Families.{SameRules, Added}
 use Rattle.pattern.specs.Expansions.{Variable}
 use Rattle.rule.specs.Rules.{Rule}
@@ -27,7 +28,7 @@ use Rattle.laws.proofs.Answers.{rules-same, deny-less, allow-no-less}
 pub any-order : (s t name path : List ℕ) (asked : ℕ) (owner : Bool) (f g : File) → Accepted s f → Accepted t g → SameButRules SameRules f g
     → answerOf s name path asked owner ≡ answerOf t name path asked owner
 any-order s t name path asked owner f g a b same =
-    texts-by SameRules (λ x y. x ≡ y) s t name path asked owner f g (λ n line. refl)
+    texts-by SameRules (λ x y. x ≡ y) s t name path asked owner f g (λ r. refl)
     (λ vs xs ys h. rules-same vs (record { path = path; owner = owner }) asked xs ys h) a b same
 
 -- ---- rules added
@@ -39,7 +40,7 @@ every-in t x xs e (List·Memᴰ·tail {x = y} {xs = ys} m) = every-in t x ys (an
 
 -- the rules of accepted texts are whole: what is to be shown of their answers may be shown of those from lists of whole rules
 module _ (s t name path : List ℕ) (asked : ℕ) (owner : Bool) (f g : File) (a : Accepted s f) (b : Accepted t g) where
-  whole-texts : (R : List Rule → List Rule → Type 0) (S : Answer → Answer → Type 0) → ((n line : ℕ) → S (refusal n line) (refusal n line))
+  whole-texts : (R : List Rule → List Rule → Type 0) (S : Answer → Answer → Type 0) → ((r : Refusal) → S (refusal r) (refusal r))
       → ((vs : List Variable) (xs ys : List Rule) → every whole xs ≡ true → every whole ys ≡ true → R xs ys
       → S (answerFrom (findings vs (record { path = path; owner = owner }) xs) asked) (answerFrom (findings vs (record { path = path; owner = owner }) ys) asked))
       → SameButRules R f g → S (answerOf s name path asked owner) (answerOf t name path asked owner)
@@ -54,11 +55,11 @@ module _ (s t name path : List ℕ) (asked : ℕ) (owner : Bool) (f g : File) (a
       all-whole : (u : List ℕ) (e : File) → Accepted u e → (p : Profile) → List·Memᴰ p (e .profiles) → every whole (p .rules) ≡ true
       all-whole u e c p = every-in (λ (p : Profile). every whole (p .rules)) p (e .profiles) (accepted-whole u e c)
 
-refusal-no-more : (n line : ℕ) → NoMore (refusal n line) (refusal n line)
-refusal-no-more n line = record { bits = λ k h e. e; transition = λ m e. (e, refl) }
+refusal-no-more : (r : Refusal) → NoMore (refusal r) (refusal r)
+refusal-no-more r = record { bits = λ k h e. e; transition = λ m e. (e, refl) }
 
-refusal-no-less : (n line : ℕ) → NoLess (refusal n line) (refusal n line)
-refusal-no-less n line = record { bits = λ k h e. e; execute = λ e. inl e }
+refusal-no-less : (r : Refusal) → NoLess (refusal r) (refusal r)
+refusal-no-less r = record { bits = λ k h e. e; execute = λ e. inl e }
 
 -- "With deny rules added, wherever, no bit and no transition is granted that wasn't before."
 pub deny-added : (s t name path : List ℕ) (asked : ℕ) (owner : Bool) (f g : File) → Accepted s f → Accepted t g → SameButRules (Added denies) f g
@@ -85,6 +86,6 @@ pub other-profiles : (s t name path : List ℕ) (asked : ℕ) (owner : Bool) (f 
 other-profiles s t name path asked owner f g p q a b same m k d e rules =
     let x = held s f a p m name d in
     let y = held t g b q k name e in
-    one-name SameRules (λ u v. u ≡ v) s t name path asked owner f g (λ n line. refl) (λ vs xs ys h. rules-same vs (record { path = path; owner = owner }) asked xs ys h) a b
+    one-name SameRules (λ u v. u ≡ v) s t name path asked owner f g (λ r. refl) (λ vs xs ys h. rules-same vs (record { path = path; owner = owner }) asked xs ys h) a b
     same (x .0 ∙ sym (y .0))
     (λ _. subst (λ (rs : List Rule). SameRules rs (rulesOf name (g .profiles))) (sym (x .1)) (subst (λ (rs : List Rule). SameRules (p .rules) rs) (sym (y .1)) rules))

@@ -7,7 +7,7 @@ use lib.ListN.{length}
 use lib.Dec.{ltb}
 use borrow.Author.Tests.{le-ltb}
 use Rattle.scan.specs.Bytes.{same}
-use Rattle.text.specs.Reading.{Reading, Read, Refused, lineOf}
+use Rattle.text.specs.Reading.{Reading, Read, Refused, nowhere, refusalAt}
 use Rattle.request.specs.Requests.{badPath, badAsked}
 use Rattle.pattern.specs.Expansions.{Variable}
 use Rattle.rule.specs.Rules.{Rule}
@@ -22,6 +22,7 @@ use Rattle.decide.specs.Decide.{answerIn, answerBy, answerOf}
 use Rattle.laws.specs.Asked.{named, rulesOf, findingsBy, findingsOf, Given}
 use Rattle.laws.specs.Orders.{Accepted, SameButRules}
 use Rattle.scan.proofs.Bools.{iff}
+use Rattle.text.specs.declared.Refusal.{Refusal}
 use Rattle.laws.proofs.Fixed.{answer-fixed}
 use Rattle.laws.proofs.Names.{found, member-named, only-one}
 
@@ -30,7 +31,7 @@ use Rattle.laws.proofs.Names.{found, member-named, only-one}
 -- refusal 11 where no profile has the name
 abbrev orNone : (found : Bool) → Answer → Answer
 orNone true a = a
-orNone false a = refusal 11 0
+orNone false a = refusal (nowhere 11)
 
 in-named : (vs : List Variable) (q : Access) (asked : ℕ) (n : List ℕ) (ps : List Profile)
     → answerIn vs q asked n ps ≡ orNone (named n ps) (answerFrom (findings vs q (rulesOf n ps)) asked)
@@ -49,9 +50,9 @@ in-named vs q asked n (p ∷ ps) = go (same (p .name) n) (in-named vs q asked n 
 
 -- refusals 1, 2 and 3 come first
 abbrev checked : (long path asked : Bool) → Answer → Answer
-checked true y z a = refusal 1 0
-checked false true z a = refusal 2 0
-checked false false true a = refusal 3 0
+checked true y z a = refusal (nowhere 1)
+checked false true z a = refusal (nowhere 2)
+checked false false true a = refusal (nowhere 3)
 checked false false false a = a
 
 whole : (text n path : List ℕ) (asked : ℕ) (owner : Bool)
@@ -64,7 +65,7 @@ whole text n path asked owner = go (ltb 65535 (length text)) (badPath path) (bad
     a = answerBy text (fileOf text) n (record { path = path; owner = owner }) asked
 
     go : (x y z : Bool)
-        → _≡_ {A = Answer} (elim x as (λ _. Answer) [ true ↦ refusal 1 0 | false ↦ elim y as (λ _. Answer) [ true ↦ refusal 2 0 | false ↦ elim z as (λ _. Answer) [ true ↦ refusal 3 0 | false ↦ a ] ] ])
+        → _≡_ {A = Answer} (elim x as (λ _. Answer) [ true ↦ refusal (nowhere 1) | false ↦ elim y as (λ _. Answer) [ true ↦ refusal (nowhere 2) | false ↦ elim z as (λ _. Answer) [ true ↦ refusal (nowhere 3) | false ↦ a ] ] ])
         (checked x y z a)
     go true y z = refl
     go false true z = refl
@@ -77,19 +78,19 @@ isAnswered : Verdict → Bool
 isAnswered verdict.Answered = true
 isAnswered (verdict.Refused r) = false
 
-no-refusal : (n line : ℕ) → Given (refusal n line) → ⊥
+no-refusal : (r : Refusal) → Given (refusal r) → ⊥
 unfolding isAnswered
-no-refusal n line e = false≢true (ap isAnswered e)
+no-refusal r e = false≢true (ap isAnswered e)
 
 given-checked : (x y z : Bool) (a : Answer) → Given (checked x y z a) → checked x y z a ≡ a
-given-checked true y z a e = absurd (no-refusal 1 0 e)
-given-checked false true z a e = absurd (no-refusal 2 0 e)
-given-checked false false true a e = absurd (no-refusal 3 0 e)
+given-checked true y z a e = absurd (no-refusal (nowhere 1) e)
+given-checked false true z a e = absurd (no-refusal (nowhere 2) e)
+given-checked false false true a e = absurd (no-refusal (nowhere 3) e)
 given-checked false false false a e = refl
 
 given-named : (b : Bool) (a : Answer) → Given (orNone b a) → orNone b a ≡ a
 given-named true a e = refl
-given-named false a e = absurd (no-refusal 11 0 e)
+given-named false a e = absurd (no-refusal (nowhere 11) e)
 
 given-read : (text : List ℕ) (r : Reading File) (n : List ℕ) (q : Access) (asked : ℕ) → Given (answerBy text r n q asked)
     → answerBy text r n q asked ≡ answerFrom (findingsBy r n q) asked
@@ -97,7 +98,7 @@ given-read text (Read f) n q asked e =
     let vs : List Variable = finalSets [] (f .preamble) in
     let k = in-named vs q asked n (f .profiles) in
     k ∙ given-named (named n (f .profiles)) (answerFrom (findings vs q (rulesOf n (f .profiles))) asked) (subst Given k e)
-given-read text (Refused number place) n q asked e = absurd (no-refusal number (lineOf text place) e)
+given-read text (Refused number place) n q asked e = absurd (no-refusal (refusalAt text number place) e)
 
 -- what is answered is the answer from the findings
 pub answered : (text n path : List ℕ) (asked : ℕ) (owner : Bool) → Given (answerOf text n path asked owner)
@@ -154,7 +155,7 @@ module _ (R : List Rule → List Rule → Type 0) (f g : File) (h : SameButRules
       subst (λ (xs : List Rule). R xs (rulesOf n (g .profiles))) (sym (w .3)) (subst (λ (ys : List Rule). R (w .0 .rules) ys) (sym k) (q .3))
 
 -- what holds of the answers of two rule lists related by R, and of a refusal with itself, holds of the answers of two accepted texts
-module _ (R : List Rule → List Rule → Type 0) (S : Answer → Answer → Type 0) (s t n path : List ℕ) (asked : ℕ) (owner : Bool) (f g : File) (self : (number line : ℕ) → S (refusal number line) (refusal number line))
+module _ (R : List Rule → List Rule → Type 0) (S : Answer → Answer → Type 0) (s t n path : List ℕ) (asked : ℕ) (owner : Bool) (f g : File) (self : (r : Refusal) → S (refusal r) (refusal r))
     (step : (vs : List Variable) (xs ys : List Rule) → R xs ys → S (answerFrom (findings vs (record { path = path; owner = owner }) xs) asked) (answerFrom (findings vs (record { path = path; owner = owner }) ys) asked)) (a : Accepted s f) (b : Accepted t g) where
   -- with the same preamble, of which both or neither hold the asked profile, and with rules related by R
   pub one-name : f .preamble ≡ g .preamble → named n (f .profiles) ≡ named n (g .profiles)
@@ -180,11 +181,11 @@ module _ (R : List Rule → List Rule → Type 0) (S : Answer → Answer → Typ
       found true true h k = step vs (rulesOf n (f .profiles)) (rulesOf n (g .profiles)) (k refl)
       found true false h k = absurd (false≢true (sym h))
       found false true h k = absurd (false≢true h)
-      found false false h k = self 11 0
+      found false false h k = self (nowhere 11)
 
       checks : (p q : Bool) {u v : Answer} → S u v → S (checked false p q u) (checked false p q v)
-      checks true q h = self 2 0
-      checks false true h = self 3 0
+      checks true q h = self (nowhere 2)
+      checks false true h = self (nowhere 3)
       checks false false h = h
 
   pub texts-by : SameButRules R f g → S (answerOf s n path asked owner) (answerOf t n path asked owner)

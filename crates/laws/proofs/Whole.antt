@@ -129,7 +129,7 @@ word-fits deny (b ∷ w) = go (holds (code "w") (b ∷ w) && holds (code "a") (b
 perms-fit : (deny : Bool) (s : List ℕ) (at : ℕ) → Keeps (λ (p : Permissions). fits deny (p .perms) (p .transition) ≡ true) (permsAt deny s at)
 unfolding permsAt
 perms-fit deny s at =
-    next _ (wanted s (tokenAt comma s at)) λ t.
+    next _ (wanted (tokenAt comma s at)) λ t.
     next _ (refuseIf (t .quoted || isWord t (bytes ",")) 4 (t .start)) λ u. go t (wordOf deny (t .content)) (word-fits deny (t .content))
   where
     go : (t : Token) (w : Word) → Fits deny w → Keeps (λ (p : Permissions). fits deny (p .perms) (p .transition) ≡ true) (carriedBy t w)

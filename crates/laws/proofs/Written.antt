@@ -129,19 +129,19 @@ word-says deny (b ∷ w) p tr e = go (holds (code "w") (b ∷ w) && holds (code 
 -- PERMS as read and as written
 record PermsSaid (deny : Bool) (s : List ℕ) (at : ℕ) (p : Permissions) : Type 0 where
   token : Token
-  stands : wanted s (tokenAt comma s at) ≡ Read token
+  stands : wanted (tokenAt comma s at) ≡ Read token
   next : p .next ≡ token .next
   said : says deny (token .content) ≡ Carries (p .perms) (p .transition)
 
 perms-said : (deny : Bool) (s : List ℕ) (at : ℕ) (p : Permissions) → permsAt deny s at ≡ Read p → PermsSaid deny s at p
 unfolding permsAt
-perms-said deny s at p e = go (wanted s (tokenAt comma s at)) refl e
+perms-said deny s at p e = go (wanted (tokenAt comma s at)) refl e
   where
     by : (t : Token) (w : Word) → carriedBy t w ≡ Read p → (p .next ≡ t .next) × (w ≡ Carries (p .perms) (p .transition))
     by t (Carries q tr) f = let k : p ≡ record { perms = q; transition = tr; next = t .next } = cc in rw k (refl, refl)
     by t Bad f = let z : _≡_ {A = ℕ} 0 1 = cc in absurd (omega arith)
 
-    go : (x : Reading Token) → wanted s (tokenAt comma s at) ≡ x
+    go : (x : Reading Token) → wanted (tokenAt comma s at) ≡ x
         → (x >>= λ t. refuseIf (t .quoted || isWord t (bytes ",")) 4 (t .start) >>= λ _. carriedBy t (wordOf deny (t .content))) ≡ Read p → PermsSaid deny s at p
     go (Read t) f q =
         let k = by t (wordOf deny (t .content)) (unless (t .quoted || isWord t (bytes ",")) 4 (t .start) _ p q) in
@@ -160,7 +160,7 @@ unfolding targetAt targetsAt
 target-said tr s at to e = go (standsAt (bytes "->") s at) refl e
   where
     wantedThere : Reading Token
-    wantedThere = wanted s (tokenAt comma s (standing s at + 2))
+    wantedThere = wanted (tokenAt comma s (standing s at + 2))
 
     named : Token → Reading Target
     named t = do
@@ -195,9 +195,9 @@ pub record Said (s : List ℕ) (at : ℕ) (r : RuleRead) : Type 0 where
   pub said : meaning written ≡ r .rule
 
 -- the pattern is the token that stands there
-pattern-token : (s : List ℕ) (q : Qualifiers) (t : Token) → patternAt s q ≡ Read t → wanted s (tokenAt noStop s (q .next)) ≡ Read t
+pattern-token : (s : List ℕ) (q : Qualifiers) (t : Token) → patternAt s q ≡ Read t → wanted (tokenAt noStop s (q .next)) ≡ Read t
 unfolding patternAt patternFrom
-pattern-token s q t e = go (wanted s (tokenAt noStop s (q .next))) (unless (firstWord (barred true) s (q .next)) 5 (standing s (q .next)) _ t e)
+pattern-token s q t e = go (wanted (tokenAt noStop s (q .next))) (unless (firstWord (barred true) s (q .next)) 5 (standing s (q .next)) _ t e)
   where
     go : (x : Reading Token) → (x >>= λ t. refuseIf (q .some && isWord t (bytes "{")) 5 (t .start) >>= λ _. Read t) ≡ Read t → x ≡ Read t
     go (Read u) f = unless (q .some && isWord u (bytes "{")) 5 (u .start) (Read u) t f

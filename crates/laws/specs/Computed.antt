@@ -17,19 +17,19 @@ use Rattle.modes.specs.Modes.{modeIn, sameMode}
 use Rattle.perms.specs.Sets.{has}
 use Rattle.perms_word.specs.Words.{letters, beforeLetters, carried, withMode, wordOf}
 use Rattle.preamble.specs.Preamble.{valuesAt, operatorFrom, afterName, assignmentAt, preambleAt}
-use Rattle.preamble.specs.Variables.{variableForm, valuesOf, setBefore, extended, assigned, finalSets}
+use Rattle.preamble.specs.Variables.{valuesOf, setBefore, extended, assigned, finalSets}
 use Rattle.heads.specs.Heads.{nameAt, openAt, headAt}
 use Rattle.profile.specs.Profiles.{profileAt, unlessEnd, profilesAt, fileWithin, fileOf}
-use Rattle.names.specs.Names.{nameForm}
+use Rattle.names.specs.Names.{nameForm, variableFault, variableForm}
 use Rattle.rule.specs.Rules.{optional, qualifiersAt, patternFrom, patternAt, ruleEnd, ruleFrom, bodyAt, ruleAt, endAt, rulesAt}
 use Rattle.rule_tail.specs.Tails.{permsAt, targetAt, commaAt}
 use Rattle.scan.specs.Bytes.{bytes, every, some, same, run}
-use Rattle.text.specs.Reading.{feeds, lineOf}
+use Rattle.text.specs.Reading.{columnOf, feeds, lineOf}
 use Rattle.blanks.specs.Blanks.{includes, skip}
 use Rattle.tokens.specs.Tokens.{tokenFrom, tokenAt}
 use Rattle.keywords.specs.Keywords.{notTaken}
 use Rattle.answer.specs.declared.Answer.{Answer}
 
 unfoldable pub computed : (text name path : List ℕ) (asked : ℕ) (owner : Bool) → Answer
-unfolding bytes every some same run has modeIn letters beforeLetters carried withMode wordOf feeds lineOf includes skip tokenFrom tokenAt notTaken ranges goodClass listed inClass upTo starting extra part parts before afterComma item reach items valueForm patternForm valueNames patternNames isSet ofParts oneOf ofName ofItems across expansions count longest joinedAfter tooMany rooted valueFault patternFault matches matchesSome matchesExactly nameForm variableForm valuesOf setBefore extended assigned finalSets valuesAt operatorFrom afterName assignmentAt preambleAt optional qualifiersAt patternFrom patternAt permsAt targetAt commaAt ruleEnd ruleFrom bodyAt ruleAt endAt rulesAt nameAt openAt headAt profileAt unlessEnd profilesAt fileWithin fileOf applies those all bits moves findings choice moveOf executeOf grants records answerFrom doubled badPath answerIn answerOf sameMode
+unfolding bytes every some same run has modeIn letters beforeLetters carried withMode wordOf feeds lineOf columnOf includes skip tokenFrom tokenAt notTaken ranges goodClass listed inClass upTo starting extra part parts before afterComma item reach items valueForm patternForm valueNames patternNames isSet ofParts oneOf ofName ofItems across expansions count longest joinedAfter tooMany rooted valueFault patternFault matches matchesSome matchesExactly nameForm variableForm variableFault valuesOf setBefore extended assigned finalSets valuesAt operatorFrom afterName assignmentAt preambleAt optional qualifiersAt patternFrom patternAt permsAt targetAt commaAt ruleEnd ruleFrom bodyAt ruleAt endAt rulesAt nameAt openAt headAt profileAt unlessEnd profilesAt fileWithin fileOf applies those all bits moves findings choice moveOf executeOf grants records answerFrom doubled badPath answerIn answerOf sameMode
 computed = answerOf

@@ -13,7 +13,7 @@ use Rattle.perms_word.specs.declared.Word.{Word}
 use Rattle.perms_word.specs.declared.Word.the-variants.{Carries, Bad}
 use Rattle.text.specs.Reading.{Reading, Read, Refused, _>>=_}
 use Rattle.blanks.specs.Blanks.{standing, standsAt}
-use Rattle.tokens.specs.Tokens.{Token, comma, noStop, tokenAt, wanted}
+use Rattle.tokens.specs.Tokens.{comma, noStop, tokenAt, wanted}
 use Rattle.rule_tail.specs.Tails.{commaAt}
 use Rattle.rule.specs.Rules.{Rule, Optional, optional, qualifiersAt}
 use Rattle.preamble.specs.Variables.{Assignment}
@@ -60,15 +60,15 @@ targetsAt s at =
     elim (standsAt (bytes "->") s at) [
       | false ↦ Read (record { words = []; next = at })
       | true ↦ do
-        t ← wanted s (tokenAt comma s (standing s at + 2))
+        t ← wanted (tokenAt comma s (standing s at + 2))
         Read (record { words = t .content ∷ []; next = t .next })
     ]
 
 -- the tokens of the rule at a place
 unfoldable pub writtenAt : List ℕ → ℕ → Reading Written
 writtenAt s at = do
-  t ← wanted s (tokenAt noStop s (qualifiersAt s at .next))
-  p ← wanted s (tokenAt comma s (t .next))
+  t ← wanted (tokenAt noStop s (qualifiersAt s at .next))
+  p ← wanted (tokenAt comma s (t .next))
   to ← targetsAt s (p .next)
   next ← commaAt s (to .next)
   Read (record { qualifiers = qualifierWords s at; pattern = t .content; perms = p .content; target = to .words; next = next })

@@ -3,17 +3,18 @@ use Prim.Native.Nat.{ℕ, zero, suc, _+_, _*_, _-_, _≤_, _<_, min}
 use Prim.Native.Char.{code}
 use mathlib.Core.Path.{_≡_, refl, sym, ap, ap₂, _∙_}
 use mathlib.Core.List.{List, [], _∷_, _++_, append-nil, append-assoc}
-use mathlib.Core.Bool.{Bool, true, false, not, _||_, _&&_, false≢true}
+use mathlib.Core.Bool.{Bool, true, false, not, _||_, false≢true}
 use lib.ListN.{length, getD, take, drop, length-take, length-drop, length-append, drop-of-length-le}
-use lib.Seq.{drop-cons, drop-drop}
+use lib.Seq.{drop-cons}
 use lib.Dec.{eqb, leb}
-use borrow.Author.Tests.{ne-eqb, le-leb, lt-leb, leb-true, leb-false, eqb-true, eqb-false}
+use borrow.Author.Tests.{ne-eqb, le-leb, lt-leb, leb-true, leb-false, eqb-false}
 use native.Mathlib.Omega.{arith}
-use Rattle.scan.specs.Bytes.{begins, bytes, isEmpty, letter, run, same, some, span, startsWith, if_then_else_}
-use Rattle.scan.proofs.Laws.{same-eq, same-self, every-from, drop-take}
+use Rattle.scan.specs.Bytes.{begins, bytes, isEmpty, run, same, some, span, if_then_else_}
+use Rattle.scan.proofs.Laws.{same-eq, same-self}
+use Rattle.names.specs.Names.{variableFault}
 use Rattle.text.specs.Reading.{Reading, Read, Refused, _>>=_, refuseIf, judged}
-use Rattle.tokens.specs.Tokens.{Token, Found, Stopped, quote, noStop, plain, plainToken, tokenAt, tokenFrom, wanted}
-use Rattle.blanks.specs.Blanks.{hash, nul, standing, standsAt}
+use Rattle.tokens.specs.Tokens.{Token, Found, noStop, tokenAt, wanted}
+use Rattle.blanks.specs.Blanks.{hash, standing, standsAt}
 use Rattle.tokens.proofs.Laws.{seen-found}
 use Rattle.text.specs.Places.{place, refusedBy}
 use Rattle.tokens.specs.Places.{seen, stopOf, tokenOf}
@@ -34,24 +35,14 @@ use Rattle.text.specs.declared.Stop.{Stop}
 use Rattle.text.specs.declared.Place.{Place}
 use Rattle.variables.specs.Added.{Added, nameSet, room, valueSet}
 use Rattle.variables.proofs.Laws.{added-none, added-both, added-before, added-room, length-values, name-set, value-set}
-use Rattle.preamble.specs.Variables.{Assignment, variableForm, valuesOf, setBefore, extended, assigned, finalSets}
-use Rattle.preamble.specs.Preamble.{Values, Operator, Assigned, Preamble, afterName, assignmentAt, inLineAt, lineEnds, nameFault, operatorFrom, preambleAt, assignmentThen, valuesAt, valueThen}
-use Rattle.preamble.specs.Places.{after, afterFault, afterOperator, afterValues, assignedOf, givenTo, nameByte, nextFault, Opening, preambleOf, seenOperator, seenPreamble, Upto, Valued, State}
+use Rattle.preamble.specs.Variables.{Assignment, valuesOf, setBefore, extended, assigned, finalSets}
+use Rattle.preamble.specs.Preamble.{Values, Operator, Assigned, Preamble, afterName, assignmentAt, inLineAt, inName, lineEnds, nameFault, operatorFrom, preambleAt, assignmentThen, valuesAt, valueThen}
+use Rattle.preamble.specs.Places.{after, afterFault, afterOperator, afterValues, assignedOf, givenTo, nextFault, Opening, preambleOf, seenOperator, seenPreamble, Upto, Valued, State}
 
--- ---- names and lines
-
-pub form-empty : (s : List ℕ) → length s ≡ 0 → variableForm s ≡ false
-unfolding variableForm
-form-empty [] e = refl
-form-empty (b ∷ s) e = absurd (omega arith)
-
-pub form-rest : (s : List ℕ) → (length s ≡ 0 → ⊥) → variableForm s ≡ (letter (getD s 0 0) && eqb (1 + run nameByte (drop 1 s)) (length s))
-unfolding variableForm
-form-rest [] e = absurd (e refl)
-form-rest (b ∷ s) e = ap (λ (x : Bool). letter b && x) (every-from nameByte (b ∷ s) 1 (omega arith))
+-- ---- lines and operators
 
 module _ (s : List ℕ) (i : ℕ) where
-  pub ends-in : i < length s → lineEnds (drop i s) ≡ (eqb (getD s i 0) (code "\n") || eqb (getD s i 0) hash || eqb (getD s i 0) nul)
+  pub ends-in : i < length s → lineEnds (drop i s) ≡ (eqb (getD s i 0) (code "\n") || eqb (getD s i 0) hash)
   ends-in h = rw (drop-cons s i 0)
 
   pub ends-end : length s ≤ i → lineEnds (drop i s) ≡ true
@@ -62,11 +53,11 @@ module _ (s : List ℕ) (i : ℕ) where
   two-fit w h e = omega (arith, ap length (same-eq (take 2 (drop i s)) w e), length-take 2 (drop i s), length-drop i s)
 
 -- the refusal of any token but an operator
-pub no-operator : (s : List ℕ) (r : tokens.Read) → (wanted s (seen s r) >>= λ t. Refused 4 (t .start)) ≡ refusedBy {A = Operator} (stopOf s r)
+pub no-operator : (s : List ℕ) (r : tokens.Read) → (wanted (seen s r) >>= λ t. Refused 4 (t .start)) ≡ refusedBy {A = Operator} (stopOf r)
 unfolding seen stopOf
 no-operator s (read.Found t) = refl
 no-operator s (read.Stopped n p) = refl
-no-operator s read.End = refl
+no-operator s (read.End p) = refl
 
 -- ---- variables of a table
 
@@ -220,7 +211,7 @@ module _ (vs : List Variable) (s : List ℕ) (at : ℕ) where
   values-end (suc left) e = rw (e, valuesAt, valueThen)
 
   module _ (e : lineEnds (drop (inLineAt s at) s) ≡ false) where
-    values-stop : (left n p : ℕ) → wanted s (tokenAt noStop s (inLineAt s at)) ≡ Refused n p → valuesAt left vs s at ≡ Refused n p
+    values-stop : (left n p : ℕ) → wanted (tokenAt noStop s (inLineAt s at)) ≡ Refused n p → valuesAt left vs s at ≡ Refused n p
     unfolding valuesAt
     values-stop zero n p q = rw (e, q, valuesAt, valueThen)
     values-stop (suc left) n p q = rw (e, q, valuesAt, valueThen)
@@ -292,11 +283,11 @@ module _ {text old : List ℕ} {w at : ℕ} {new : List ℕ} {next : ℕ} {given
   refused stop e given next = record { refusal = λ _. e; stored = λ z. absurd (false≢true (sym z)) }
 
   module _ (r : tokens.Read) (n : seen text r ≡ tokenAt noStop text p) (e : lineEnds (drop p text) ≡ false) where
-    pub upto-stop : wanted text (seen text r) ≡ refusedBy (stopOf text r) → (stop : Stop) → stop ≡ stopOf text r → (given : Bool) (next : Place) →
+    pub upto-stop : wanted (seen text r) ≡ refusedBy (stopOf r) → (stop : Stop) → stop ≡ stopOf r → (given : Bool) (next : Place) →
         Valued text old new w (givenTo text old w at) (record { refused = true; stop = stop; given = given; next = next })
     unfolding after
     upto-stop z stop q =
-        let k : wanted text (tokenAt noStop text (inLineAt text next)) ≡ refusedBy stop = rw (← i, ← n, q) z in
+        let k : wanted (tokenAt noStop text (inLineAt text next)) ≡ refusedBy stop = rw (← i, ← n, q) z in
         refused stop (u .rest ∙ ap (after (u .values)) (values-stop (variables text old w) text next (rw (← i) e) (room new w) (stop .number) (stop .place .0) k))
 
     module _ (t : code.Token) (g : r ≡ read.Found t) (h : w < 32) where
@@ -413,69 +404,24 @@ module _ (vs : List Variable) (s n : List ℕ) (start end sign : ℕ) (o : Opera
   unfolding seenOperator
   name-found adds next h = name-operator ∙ rw h
 
-  pub name-missing : o ≡ operator.Missing → (r : tokens.Read) → seen s r ≡ tokenAt noStop s (end + 1) → assignedOf vs (afterName vs s n start end) ≡ refusedBy (stopOf s r)
+  pub name-missing : o ≡ operator.Missing → (r : tokens.Read) → seen s r ≡ tokenAt noStop s (end + 1) → assignedOf vs (afterName vs s n start end) ≡ refusedBy (stopOf r)
   unfolding seenOperator assignedOf
   name-missing h r t = rw (name-operator, h, ← t, no-operator s r)
 
--- the token of an assignment's name, which begins with @{ and ends at }
-at-brace : (p : ℕ) (l : List ℕ) → startsWith (bytes "@{") l ≡ true → tokenFrom (code "}") p l ≡ plainToken p (run (plain (code "}")) l) l
-unfolding tokenFrom same bytes
-at-brace p [] e = absurd (false≢true e)
-at-brace p (b ∷ l) e = go (eqb b 64) refl e
-  where
-    go : (x : Bool) → eqb b 64 ≡ x → (elim x as (λ _. Bool) [ true ↦ same (take 1 l) (123 ∷ []) | false ↦ false ]) ≡ true →
-        tokenFrom (code "}") p (b ∷ l) ≡ plainToken p (run (plain (code "}")) (b ∷ l)) (b ∷ l)
-    go true q h = rw (eqb-true b 64 q)
-    go false q h = absurd (false≢true h)
-
-module _ (vs : List Variable) (s : List ℕ) (at : ℕ) where
-  pub assignment-stop : (r : tokens.Read) → seen s r ≡ tokenAt (code "}") s at → wanted s (seen s r) ≡ refusedBy (stopOf s r) → assignedOf vs (assignmentAt vs s at) ≡ refusedBy (stopOf s r)
+-- an assignment whose name stands after the @{ at first and to before end
+module _ (vs : List Variable) (s : List ℕ) (at first end : ℕ) (p : first ≡ standing s at) (q : end ≡ first + 2 + run inName (drop (first + 2) s)) where
+  pub assignment-open : begins (code "}") (drop end s) ≡ false → assignedOf vs (assignmentAt vs s at) ≡ Refused 4 first
   unfolding assignmentAt assignedOf
-  assignment-stop r q z = rw (← q, z)
+  assignment-open b = rw (← p, ← q, b)
 
-  module _ (t : code.Token) (q : seen s (read.Found t) ≡ tokenAt (code "}") s at) where
-    pub assignment-open : begins (code "}") (drop (t .next .0) s) ≡ false → assignedOf vs (assignmentAt vs s at) ≡ Refused 4 (t .start .0)
+  module _ (b : begins (code "}") (drop end s) ≡ true) (f : ℕ) (k : f ≡ variableFault (span s (first + 2) end)) where
+    pub assignment-bad : (f ≡ 0 → ⊥) → assignedOf vs (assignmentAt vs s at) ≡ Refused f (first + 2)
     unfolding assignmentAt assignedOf
-    assignment-open b = rw (← q, seen-found s t, b)
+    assignment-bad z = let e : f ≡ suc (f - 1) = omega arith in rw (← p, ← q, b, ← k, e)
 
-    module _ (e : standsAt (bytes "@{") s at ≡ true) where
-      abbrev p : ℕ
-      p = standing s at
-
-      abbrev n : ℕ
-      n = run (plain (code "}")) (drop p s)
-
-      name-token : tokenOf s t ≡ record { start = p; content = take n (drop p s); quoted = false; next = p + n }
-      unfolding tokenAt
-      name-token = go (begins quote (drop n (drop p s))) (sym (seen-found s t) ∙ q ∙ at-brace p (drop p s) e)
-        where
-          go : (x : Bool) → Found (tokenOf s t) ≡ (if x then Stopped 4 p else Found (record { start = p; content = take n (drop p s); quoted = false; next = p + n })) →
-              tokenOf s t ≡ record { start = p; content = take n (drop p s); quoted = false; next = p + n }
-          go true h = let z : _≡_ {A = ℕ} 0 1 = cc in absurd (omega arith)
-          go false h = cc
-
-      pub name-start : t .start .0 < length s
-      unfolding bytes
-      name-start =
-          let k : t .start .0 ≡ p = ap (λ (u : Token). u .start) name-token in
-          omega (arith, ap length (same-eq (take 2 (drop p s)) (bytes "@{") e), length-take 2 (drop p s), length-drop p s)
-
-      name-span : drop 2 (span s (t .from .0) (t .end .0)) ≡ span s (t .start .0 + 2) (t .next .0)
-      name-span =
-          let k : t .start .0 ≡ p = ap (λ (u : Token). u .start) name-token in
-          let j : t .next .0 ≡ p + n = ap (λ (u : Token). u .next) name-token in
-          let w : p + n - (p + 2) ≡ n - 2 = omega arith in
-          ap (λ (u : Token). drop 2 (u .content)) name-token ∙ drop-take 2 n (drop p s) ∙ rw (k, j, w, drop-drop 2 p s)
-
-      module _ (b : begins (code "}") (drop (t .next .0) s) ≡ true) where
-        pub assignment-bad : variableForm (span s (t .start .0 + 2) (t .next .0)) ≡ false → assignedOf vs (assignmentAt vs s at) ≡ Refused 6 (t .start .0 + 2)
-        unfolding assignmentAt assignedOf
-        assignment-bad f = rw (← q, seen-found s t, b, name-span, f)
-
-        pub assignment-good : variableForm (span s (t .start .0 + 2) (t .next .0)) ≡ true → {x : Reading State} →
-            x ≡ assignedOf vs (afterName vs s (span s (t .start .0 + 2) (t .next .0)) (t .start .0 + 2) (t .next .0)) → x ≡ assignedOf vs (assignmentAt vs s at)
-        unfolding assignmentAt
-        assignment-good f g = g ∙ rw (← q, seen-found s t, b, name-span, f)
+    pub assignment-good : f ≡ 0 → {x : Reading State} → x ≡ assignedOf vs (afterName vs s (span s (first + 2) end) (first + 2) end) → x ≡ assignedOf vs (assignmentAt vs s at)
+    unfolding assignmentAt
+    assignment-good z g = g ∙ rw (← p, ← q, b, ← k, z)
 
 -- ---- the preamble
 

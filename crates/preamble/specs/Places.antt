@@ -1,12 +1,11 @@
 -- What the code's operators, values and preambles mean over the text.
 use Prim.Native.Nat.{ℕ, zero, suc, _+_, _-_, _<_, min}
-use Prim.Native.Char.{code}
 use mathlib.Core.Path.{_≡_}
 use mathlib.Core.List.{List, _++_}
-use mathlib.Core.Bool.{Bool, true, false, not, _||_}
+use mathlib.Core.Bool.{Bool, true, false, not}
 use lib.ListN.{length}
 use lib.Dec.{eqb}
-use Rattle.scan.specs.Bytes.{digit, isEmpty, letter, if_then_else_}
+use Rattle.scan.specs.Bytes.{isEmpty, if_then_else_}
 use Rattle.text.specs.Reading.{Reading, Read, Refused, _>>=_, refuseIf, judged}
 use Rattle.text.specs.Places.{refusedBy}
 use Rattle.tokens.specs.Tokens.{noStop, tokenAt, wanted}
@@ -22,15 +21,11 @@ use Rattle.preamble.specs.declared.ValuesRead.{ValuesRead}
 use Rattle.preamble.specs.declared.Opened.{Opened}
 use Rattle.preamble.specs.declared.PreambleRead.{PreambleRead}
 
--- what follows a name's first letter
-abbrev pub nameByte : ℕ → Bool
-nameByte b = letter b || digit b || eqb b (code "_")
-
 -- an operator; where there is none, the refusal of the token that stands after the name
 unfoldable pub seenOperator : List ℕ → (after : ℕ) → OperatorRead → Reading Operator
 seenOperator s after (operator.Found a n) = Read (record { adds = a; next = n .0 })
 seenOperator s after operator.Missing = do
-  t ← wanted s (tokenAt noStop s after)
+  t ← wanted (tokenAt noStop s after)
   Refused 4 (t .start)
 
 -- ---- values

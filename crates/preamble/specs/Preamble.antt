@@ -5,13 +5,14 @@ use mathlib.Core.List.{List, [], _∷_}
 use mathlib.Core.Bool.{Bool, true, false, not, _||_}
 use lib.ListN.{length, take, drop}
 use lib.Dec.{eqb, leb}
-use Rattle.scan.specs.Bytes.{begins, bytes, isEmpty, run, same, if_then_else_}
+use Rattle.scan.specs.Bytes.{begins, bytes, isEmpty, run, same, span, if_then_else_}
 use Rattle.text.specs.Reading.{Reading, Read, Refused, _>>=_, refuseIf, judged}
-use Rattle.blanks.specs.Blanks.{hash, inLine, nul, standing, standsAt}
+use Rattle.names.specs.Names.{variableFault}
+use Rattle.blanks.specs.Blanks.{blank, hash, inLine, nul, standing, standsAt}
 use Rattle.tokens.specs.Tokens.{Token, noStop, tokenAt, wanted}
 use Rattle.pattern.specs.Expansions.{Variable, isSet}
 use Rattle.pattern.specs.Faults.{valueFault}
-use Rattle.preamble.specs.Variables.{Assignment, variableForm, valuesOf, setBefore, assigned}
+use Rattle.preamble.specs.Variables.{Assignment, valuesOf, setBefore, assigned}
 
 -- ---- values, "up to the line's end"
 
@@ -23,17 +24,17 @@ pub record Values : Type 0 where
 abbrev pub inLineAt : List ℕ → ℕ → ℕ
 inLineAt s at = at + run inLine (drop at s)
 
--- no value stands there: the line or the text ends, a comment begins, or a NUL stands there
+-- no value stands there: the line or the text ends, or a comment begins
 abbrev pub lineEnds : List ℕ → Bool
 lineEnds [] = true
-lineEnds (b ∷ s) = eqb b (code "\n") || eqb b hash || eqb b nul
+lineEnds (b ∷ s) = eqb b (code "\n") || eqb b hash
 
 -- what is done with the value that stands next in the line, if one does
 abbrev pub valueThen : (Token → Reading Values) → List ℕ → ℕ → Reading Values
 valueThen f s at =
     elim (lineEnds (drop (inLineAt s at) s)) [
       | true ↦ Read (record { values = []; next = inLineAt s at })
-      | false ↦ wanted s (tokenAt noStop s (inLineAt s at)) >>= f
+      | false ↦ wanted (tokenAt noStop s (inLineAt s at)) >>= f
     ]
 
 -- the values from a place on, where so many more are allowed; they use the variables vs. One too many is 9, unless it is empty
@@ -61,7 +62,7 @@ operatorFrom s at p =
       | false ↦ elim (same (take 2 (drop p s)) (bytes "+=")) [
         | true ↦ Read (record { adds = true; next = p + 2 })
         | false ↦ do
-          t ← wanted s (tokenAt noStop s at)
+          t ← wanted (tokenAt noStop s at)
           Refused 4 (t .start)
       ]
     ]
@@ -93,13 +94,20 @@ afterName vs s n start end =
       _ ← refuseIf (eqb (length (vals .values)) 0) 4 sign
       Read (record { assignment = record { name = n; adds = op .adds; values = vals .values }; next = vals .next })
 
--- the assignment at a place where @{ stands: "its name runs to the next }, and a blank, #, NUL or the end before that is 4 at the @{"
+-- what an assigned name holds: "its name runs to the next }", and a blank, # and NUL end it before that
+abbrev pub inName : ℕ → Bool
+inName b = not (blank b || eqb b hash || eqb b nul || eqb b (code "}"))
+
+-- the assignment at a place where @{ stands: "a blank, #, NUL or the end before that is 4 at the @{"; "An assigned variable's name begins
+-- after its @{", and all that is wrong with the name is told there
 unfoldable pub assignmentAt : List Variable → List ℕ → ℕ → Reading Assigned
-assignmentAt vs s at = do
-  t ← wanted s (tokenAt (code "}") s at)
-  _ ← refuseIf (not (begins (code "}") (drop (t .next) s))) 4 (t .start)
-  _ ← refuseIf (not (variableForm (drop 2 (t .content)))) 6 (t .start + 2)
-  afterName vs s (drop 2 (t .content)) (t .start + 2) (t .next)
+assignmentAt vs s at =
+    let start : ℕ = standing s at + 2 in
+    let end : ℕ = start + run inName (drop start s) in
+    do
+      _ ← refuseIf (not (begins (code "}") (drop end s))) 4 (standing s at)
+      _ ← judged (variableFault (span s start end)) start
+      afterName vs s (span s start end) start end
 
 -- ---- the preamble
 

@@ -1,10 +1,8 @@
 -- Assignments and the variables they set.
 use Prim.Native.Nat.{ℕ}
-use Prim.Native.Char.{code}
 use mathlib.Core.List.{List, [], _∷_, _++_}
-use mathlib.Core.Bool.{Bool, true, false, _||_, _&&_}
-use lib.Dec.{eqb}
-use Rattle.scan.specs.Bytes.{digit, every, letter, same, if_then_else_}
+use mathlib.Core.Bool.{Bool, true, false}
+use Rattle.scan.specs.Bytes.{same, if_then_else_}
 use Rattle.pattern.specs.Expansions.{Variable}
 
 -- an assignment: += adds values to a name that is set, = sets a name
@@ -12,11 +10,6 @@ pub record Assignment : Type 0 where
   pub name : List ℕ
   pub adds : Bool
   pub values : List (List ℕ)
-
--- "NAME: a letter, then letters, digits, underscores"
-unfoldable pub variableForm : List ℕ → Bool
-variableForm [] = false
-variableForm (b ∷ s) = letter b && every (λ c. letter c || digit c || eqb c (code "_")) s
 
 -- the values of a name, none where it is not set
 unfoldable pub valuesOf : List Variable → List ℕ → List (List ℕ)

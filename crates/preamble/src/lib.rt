@@ -2,11 +2,14 @@
 use blanks::standing_at;
 use blanks::stands_at;
 use faults::value_fault;
+use names::variable_fault;
 use scan::begins_at;
 use scan::span;
 use text::BAD_FORM;
+use text::BAD_NAME;
 use text::Place;
 use text::Stop;
+use text::TOO_MUCH;
 use text::bytes_from;
 use text::starts_with;
 use tokens::Read;
@@ -21,19 +24,13 @@ ghost use mathlib.Core.List.{List, []};
 ghost use mathlib.Core.Bool.{true};
 ghost use Prim.Native.Nat.{ℕ, _+_, _<_};
 ghost use lib.ListN.{length, drop};
-ghost use Rattle.scan.specs.Bytes.{bytes, letter, run, span};
+ghost use Rattle.scan.specs.Bytes.{bytes, run, span};
 ghost use Rattle.blanks.specs.Blanks.{inLine, standsAt};
 ghost use Rattle.text.specs.Reading.{Refused};
 ghost use Rattle.pattern.specs.Table.{env};
 ghost use Rattle.variables.specs.Added.{room};
-ghost use Rattle.preamble.specs.Variables.{variableForm};
-ghost use Rattle.preamble.specs.Preamble.{afterName, assignmentAt, inLineAt, lineEnds, nameFault, operatorFrom, preambleAt};
-ghost use Rattle.preamble.specs.Places.{afterOperator, assignedOf, givenTo, nameByte, nextFault, Opening, preambleOf, seenOperator, seenPreamble, Valued};
-
-// The numbers of refusals besides bad form: a bad name, a size.
-pub const BAD_NAME: u8 = 6;
-
-pub const TOO_MANY: u8 = 9;
+ghost use Rattle.preamble.specs.Preamble.{afterName, assignmentAt, inLineAt, inName, lineEnds, nameFault, operatorFrom, preambleAt};
+ghost use Rattle.preamble.specs.Places.{afterOperator, assignedOf, givenTo, nextFault, Opening, preambleOf, seenOperator, seenPreamble, Valued};
 
 // = or +=, and where reading goes on, or neither.
 pub enum OperatorRead {
@@ -63,48 +60,6 @@ pub struct PreambleRead {
     pub next: Place,
 }
 
-// A letter.
-fn is_letter(b: u8) -> bool
-    ensures { λ r. ⌜ r ≡ letter b ⌝ }
-{
-    ((b'a' <= b) & (b <= b'z')) | ((b'A' <= b) & (b <= b'Z'))
-}
-
-// A letter, digit or underscore.
-fn is_name_byte(b: u8) -> bool
-    ensures { λ r. ⌜ r ≡ nameByte b ⌝ }
-{
-    is_letter(b) | ((b'0' <= b) & (b <= b'9')) | (b == b'_')
-}
-
-// Where the letters, digits and underscores at a place end.
-fn name_bytes_end(s: &[u8], at: usize) -> usize
-    ensures { λ r. ⌜ r ≡ at + run nameByte (drop at (now (s .entry))) ⌝ }
-{
-    let mut i = at;
-    while i < s.len() {
-        if is_name_byte(s[i]) {
-            i += 1;
-        } else {
-            return i;
-        }
-    }
-    i
-}
-
-// Whether s has the form of a variable's name.
-fn variable_form(s: &[u8]) -> bool
-    ensures { λ r. ⌜ r ≡ variableForm (now (s .entry)) ⌝ }
-{
-    if s.len() == 0 {
-        return false;
-    }
-    if is_letter(s[0]) {
-        return name_bytes_end(s, 1) == s.len();
-    }
-    false
-}
-
 // A blank other than LF.
 fn is_in_line(b: u8) -> bool
     ensures { λ r. ⌜ r ≡ inLine b ⌝ }
@@ -127,13 +82,13 @@ fn in_line_at(text: &[u8], at: usize) -> usize
     i
 }
 
-// Whether no value stands at a place: the line or the text ends, or a comment or a NUL stands there.
+// Whether no value stands at a place: the line or the text ends, or a comment begins.
 fn line_ends(text: &[u8], at: usize) -> bool
     ensures { λ r. ⌜ r ≡ lineEnds (drop at (now (text .entry))) ⌝ }
 {
     if at < text.len() {
         let b = text[at];
-        return (b == b'\n') | (b == b'#') | (b == 0);
+        return (b == b'\n') | (b == b'#');
     }
     true
 }
@@ -172,7 +127,7 @@ fn name_fault(text: &[u8], vars: &[usize], n: usize, adds: bool, start: usize, e
         return BAD_NAME;
     }
     if 32 <= n {
-        return TOO_MANY;
+        return TOO_MUCH;
     }
     0
 }
@@ -187,7 +142,7 @@ fn next_fault(text: &[u8], vars: &[usize], w: usize, a: usize, e: usize) -> u8
     if span(text, a, e).len() == 0 {
         return BAD_FORM;
     }
-    TOO_MANY
+    TOO_MUCH
 }
 
 // Gives variable w the values from a place on up to the line's end.
@@ -210,7 +165,7 @@ fn values_at(text: &[u8], vars: &mut [usize; 1120], w: usize, at: Place) -> Valu
         }
         let r = next_token(text, Place(p), 0);
         let Read::Found(t) = r else {
-            let stop = stop_of(text, r);
+            let stop = stop_of(r);
             return ValuesRead {
                 refused: true,
                 stop,
@@ -323,11 +278,39 @@ fn after_name(
     let sign = in_line_at(text, end + 1);
     let operator = operator_at(text, sign);
     let OperatorRead::Found { adds, next } = operator else {
-        let stop = stop_of(text, next_token(text, Place(end + 1), 0));
+        let stop = stop_of(next_token(text, Place(end + 1), 0));
         let place = stop.place;
         return refused_at(stop.number, place);
     };
     after_operator(text, vars, n, start, end, sign, adds, next)
+}
+
+// A byte of an assigned name: a blank, #, NUL or } ends it.
+fn is_in_name(b: u8) -> bool
+    ensures { λ r. ⌜ r ≡ inName b ⌝ }
+{
+    !((b == b' ')
+        | (b == b'\t')
+        | (b == b'\r')
+        | (b == b'\n')
+        | (b == b'#')
+        | (b == 0)
+        | (b == b'}'))
+}
+
+// Where an assigned name's bytes end.
+fn name_end(text: &[u8], at: usize) -> usize
+    ensures { λ r. ⌜ r ≡ at + run inName (drop at (now (text .entry))) ⌝ }
+{
+    let mut i = at;
+    while i < text.len() {
+        if is_in_name(text[i]) {
+            i += 1;
+        } else {
+            return i;
+        }
+    }
+    i
 }
 
 // The first n variables after the assignment whose @{ stands next at a place.
@@ -335,22 +318,17 @@ fn assignment_at(text: &[u8], vars: &mut [usize; 1120], n: usize, at: Place) -> 
     requires { ⌜ standsAt (bytes "@{") (now text) (at .0) ≡ true ⌝ }
     ensures { λ r. ⌜ seenPreamble (now (text .entry)) (now (vars .exit)) r ≡ assignedOf (env (now (text .entry)) (now (vars .entry)) n) (assignmentAt (env (now (text .entry)) (now (vars .entry)) n) (now (text .entry)) (at .0)) ⌝ }
 {
-    let token = next_token(text, at, b'}');
-    let Read::Found(t) = token else {
-        let stop = stop_of(text, token);
-        let place = stop.place;
-        return refused_at(stop.number, place);
-    };
-    let first = t.start;
-    let start = first.0 + 2;
-    let end = t.next.0;
+    let first = standing_at(text, at).0;
+    let start = first + 2;
+    let end = name_end(text, start);
     if begins_at(text, end, b'}') {
-        if variable_form(span(text, start, end)) {
-            return after_name(text, vars, n, start, end);
+        let number = variable_fault(span(text, start, end));
+        if number != 0 {
+            return refused_at(number, Place(start));
         }
-        return refused_at(BAD_NAME, Place(start));
+        return after_name(text, vars, n, start, end);
     }
-    refused_at(BAD_FORM, first)
+    refused_at(BAD_FORM, Place(first))
 }
 
 // Sets the variables of the assignments in front of the profiles, and says where the first profile may stand.
@@ -367,7 +345,7 @@ pub fn preamble_at(text: &[u8], vars: &mut [usize; 1120]) -> PreambleRead
             return a;
         }
         if left == 0 {
-            return refused_at(TOO_MANY, standing_at(text, at));
+            return refused_at(TOO_MUCH, standing_at(text, at));
         }
         count = a.count;
         at = a.next;

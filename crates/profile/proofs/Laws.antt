@@ -10,7 +10,7 @@ use native.Mathlib.Numerals.{add-one}
 use native.Mathlib.Omega.{arith}
 use borrow.Author.Tests.{le-leb, leb-false, lt-leb}
 use Rattle.scan.specs.Bytes.{span}
-use Rattle.text.specs.Reading.{Reading, Read, Refused, _>>=_, refuseIf, lineOf}
+use Rattle.text.specs.Reading.{Reading, Read, Refused, _>>=_, refuseIf, refusalAt}
 use Rattle.tokens.specs.Tokens.{Token, noStop, tokenAt}
 use Rattle.blanks.specs.Blanks.{standing}
 use Rattle.keywords.specs.Keywords.{firstWord, notTaken}
@@ -37,7 +37,7 @@ use Rattle.heads.specs.Places.{namesOf, seenHead}
 use Rattle.heads.specs.declared.HeadRead.{HeadRead}
 use Rattle.heads.specs.declared.HeadRead.the-variants as head
 use Rattle.profile.specs.Profiles.{OneProfile, Profile, ends, fileWithin, oneProfile, profileAt, profilesAt, ruleCount, rulesIn, unlessEnd}
-use Rattle.profile.specs.Places.{FileKept, Judged, Accepted, Kept, Rejected, OneMore, judgedOf, profileOf, profilesAgain, profilesBy, profilesFrom, profilesOf, rulesRead, seenFile, seenProfile, seenProfiles}
+use Rattle.profile.specs.Places.{FileKept, Judged, Accepted, Kept, Rejected, OneMore, judgedOf, profileOf, profilesAgain, profilesBy, profilesFrom, profilesOf, refusalOf, rulesRead, seenFile, seenProfile, seenProfiles}
 use Rattle.profile.specs.declared.Profiles.{Profiles}
 use Rattle.profile.specs.declared.ProfileRead.{ProfileRead}
 use Rattle.profile.specs.declared.ProfileRead.the-variants as profile-read
@@ -467,20 +467,20 @@ held-read s t p x e = go (p .refused) refl e
         let j : _≡_ {A = State} (record { variables = env s t (p .count); next = p .next .0 }) x = cc in
         ap (λ (y : State). y .variables) j
 
--- the profiles under these variables, or the refusal, with its line
+-- the profiles under these variables, or the refusal, with its line and column
 unfoldable judgedBy : List Variable → List ℕ → Reading (List Profile) → Judged
 judgedBy vs s (Read ps) = Accepted vs ps
-judgedBy vs s (Refused n p) = Rejected n (lineOf s p)
+judgedBy vs s (Refused n p) = Rejected (refusalAt s n p)
 
 -- as the code tells it
-seen-judged : (s t : List ℕ) (r : FileRead) (ps : ProfilesRead) → r .refused ≡ ps .refused → r .refusal .number ≡ ps .stop .number →
-    r .refusal .line ≡ lineOf s (ps .stop .place .0) → r .profiles ≡ ps .profiles .table → r .count ≡ ps .profiles .count →
+seen-judged : (s t : List ℕ) (r : FileRead) (ps : ProfilesRead) → r .refused ≡ ps .refused → r .refusal ≡ refusalOf (ps .refused) s (ps .stop) →
+    r .profiles ≡ ps .profiles .table → r .count ≡ ps .profiles .count →
     seenFile s t r ≡ judgedBy (env s t (r .vars)) s (seenProfiles (env s t (r .vars)) s ps)
 unfolding seenFile seenProfiles judgedBy
-seen-judged s t r ps a b c d e = go (ps .refused) refl
+seen-judged s t r ps a b d e = go (ps .refused) refl
   where
     go : (x : Bool) → ps .refused ≡ x → seenFile s t r ≡ judgedBy (env s t (r .vars)) s (seenProfiles (env s t (r .vars)) s ps)
-    go true q = rw (a, q, b, c, seenFile)
+    go true q = rw (a, q, b, q, seenFile)
     go false q = rw (a, q, d, e, seenFile)
 
 module _ (allowed : ℕ) (s : List ℕ) where
@@ -518,11 +518,11 @@ module _ (allowed : ℕ) (s : List ℕ) where
 
   module _ (t : List ℕ) (p : PreambleRead) (ps : ProfilesRead) (e : seenPreamble s t p ≡ preambleOf (preambleAt 512 [] s 0))
       (f : seenProfiles (env s t (p .count)) s ps ≡ profilesOf allowed s (seenPreamble s t p)) (r : FileRead) (v : r .vars ≡ p .count) where
-    pub file-read : r .refused ≡ ps .refused → r .refusal .number ≡ ps .stop .number → r .refusal .line ≡ lineOf s (ps .stop .place .0) →
+    pub file-read : r .refused ≡ ps .refused → r .refusal ≡ refusalOf (ps .refused) s (ps .stop) →
         r .profiles ≡ ps .profiles .table → r .count ≡ ps .profiles .count → seenFile s t r ≡ judgedOf s (fileWithin allowed s)
     unfolding preambleOf
-    file-read a b c d k =
-        seen-judged s t r ps a b c d k
+    file-read a b d k =
+        seen-judged s t r ps a b d k
         ∙ ap (λ (n : ℕ). judgedBy (env s t n) s (seenProfiles (env s t n) s ps)) v
         ∙ ap (judgedBy (env s t (p .count)) s) (f ∙ ap (profilesOf allowed s) e)
         ∙ file-judged (env s t (p .count)) (λ q g. held-read s t p (record { variables = q .variables; next = q .next }) (e ∙ ap preambleOf g))

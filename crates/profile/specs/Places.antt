@@ -4,9 +4,10 @@ use Prim.Native.Nat.{ℕ, zero, suc, _+_, _*_, _≤_}
 use Prim.Native.Char.{code}
 use mathlib.Core.Path.{_≡_}
 use mathlib.Core.List.{List, [], _∷_, _++_}
+use mathlib.Core.Bool.{Bool}
 use lib.ListN.{getD}
 use Rattle.scan.specs.Bytes.{if_then_else_}
-use Rattle.text.specs.Reading.{Reading, Read, Refused, _>>=_, lineOf}
+use Rattle.text.specs.Reading.{Reading, Read, Refused, _>>=_, nowhere, refusalAt}
 use Rattle.text.specs.Places.{refusedBy}
 use Rattle.text.specs.declared.Place.{Place}
 use Rattle.pattern.specs.Expansions.{Variable}
@@ -14,6 +15,8 @@ use Rattle.pattern.specs.Faults.{patternFault}
 use Rattle.pattern.specs.Table.{bytesAt, env}
 use Rattle.text.specs.Places.{spanOf}
 use Rattle.text.specs.declared.Span.{Span}
+use Rattle.text.specs.declared.Refusal.{Refusal}
+use Rattle.text.specs.declared.Stop.{Stop}
 use Rattle.statement.specs.Steps.{rulesFrom}
 use Rattle.preamble.specs.Variables.{finalSets}
 use Rattle.preamble.specs.Places.{State}
@@ -83,19 +86,23 @@ pub record Kept (vs : List Variable) (s : List ℕ) (allowed : ℕ) (r : Profile
 unfoldable pub profilesOf : (rules : ℕ) → List ℕ → Reading State → Reading (List Profile)
 profilesOf rules s x = x >>= λ p. profilesAt 32 rules [] (p .variables) s (p .next)
 
--- a text is accepted with its variables and its profiles, or refused with a number and a line
+-- a text is accepted with its variables and its profiles, or refused with a number, a line and a column
 pub data Judged : Type 0 where
   Accepted : List Variable → List Profile → Judged
-  Rejected : (number line : ℕ) → Judged
+  Rejected : Refusal → Judged
+
+-- the refusal of a text, where it is refused
+abbrev pub refusalOf : (refused : Bool) → List ℕ → Stop → Refusal
+refusalOf refused s r = if refused then refusalAt s (r .number) (r .place .0) else nowhere 0
 
 unfoldable pub judgedOf : List ℕ → Reading File → Judged
 judgedOf s (Read f) = Accepted (finalSets [] (f .preamble)) (f .profiles)
-judgedOf s (Refused n p) = Rejected n (lineOf s p)
+judgedOf s (Refused n p) = Rejected (refusalAt s n p)
 
 -- as the code tells it, with the table of variables
 unfoldable pub seenFile : (text vars : List ℕ) → FileRead → Judged
 seenFile s t r =
-    if r .refused then Rejected (r .refusal .number) (r .refusal .line)
+    if r .refused then Rejected (r .refusal)
     else Accepted (env s t (r .vars)) (profilesFrom (env s t (r .vars)) s (r .profiles) (r .count) 0)
 
 -- and what is known besides

@@ -28,7 +28,7 @@ pub record File : Type 0 where
 abbrev pub ends : Next → Bool
 ends (Found t) = false
 ends (Stopped n p) = false
-ends End = true
+ends (End p) = true
 
 -- a profile, how many rules it has, and where reading goes on
 pub record OneProfile : Type 0 where

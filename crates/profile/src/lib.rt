@@ -11,6 +11,8 @@ use text::Place;
 use text::Refusal;
 use text::Span;
 use text::Stop;
+use text::nowhere;
+use text::refusal_at;
 use tokens::Read;
 ghost use mathlib.Core.Path.{_≡_};
 ghost use mathlib.Core.List.{[]};
@@ -22,7 +24,7 @@ ghost use Rattle.sizes.specs.Sizes.{Known};
 ghost use Rattle.profile.specs.Profiles.{ends, fileWithin, profileAt, profilesAt};
 ghost use Rattle.preamble.specs.Places.{seenPreamble};
 ghost use Rattle.heads.specs.Places.{namesOf};
-ghost use Rattle.profile.specs.Places.{FileKept, Kept, OneMore, judgedOf, profilesOf, seenFile, seenProfile, seenProfiles};
+ghost use Rattle.profile.specs.Places.{FileKept, Kept, OneMore, judgedOf, profilesOf, refusalOf, seenFile, seenProfile, seenProfiles};
 
 // The most rules of a text.
 pub const RULES: usize = 512;
@@ -56,7 +58,7 @@ fn ends_at(text: &[u8], at: Place) -> bool
             number: _,
             place: _,
         } => false,
-        Read::End => true,
+        Read::End(_) => true,
     }
 }
 
@@ -185,6 +187,16 @@ pub struct FileRead {
     pub rules: usize,
 }
 
+// The refusal of a text, where it is refused.
+fn refusal_of(refused: bool, text: &[u8], stop: Stop) -> Refusal
+    ensures { λ r. ⌜ r ≡ refusalOf refused (now (text .entry)) stop ⌝ }
+{
+    if refused {
+        return refusal_at(text, stop);
+    }
+    nowhere(0)
+}
+
 // The profiles after the assignments, where so many rules are allowed, or the refusal.
 fn profiles_of(
     text: &[u8],
@@ -226,10 +238,7 @@ pub fn read(text: &[u8], vars: &mut [usize; 1120], rooms: usize) -> FileRead
     let stop = ps.stop;
     FileRead {
         refused: ps.refused,
-        refusal: Refusal {
-            number: stop.number,
-            line: text::line_of(text, stop.place),
-        },
+        refusal: refusal_of(ps.refused, text, stop),
         vars: n,
         profiles,
         count: found.count,

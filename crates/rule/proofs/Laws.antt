@@ -9,7 +9,7 @@ use Rattle.blanks.specs.Blanks.{standing}
 use Rattle.tokens.specs.Tokens.{Token, Next, Found, Stopped, End, comma, isWord, noStop, tokenAt, wanted}
 use Rattle.tokens.proofs.Laws.{token-by}
 use Rattle.keywords.specs.Keywords.{barred, wordIs}
-use Rattle.rule.specs.Rules.{Optional, Qualifiers, RuleRead, ifWord, optional, patternAt, patternFrom, qualifiersAt, ruleEnd, ruleFrom}
+use Rattle.rule.specs.Rules.{Optional, Qualifiers, ifWord, optional, patternAt, patternFrom, qualifiersAt, ruleEnd, ruleFrom}
 use Rattle.rule.specs.Places.{denyAfter}
 
 -- the four words, one after another
@@ -36,7 +36,7 @@ near-optional w s a b e = rw (token-by noStop s a b e) (by (tokenAt noStop s b))
     by : (n : Next) → Near s (ifWord w a n) (ifWord w b n)
     by (Found t) = test t (isWord t w)
     by (Stopped n p) = record { found = refl; next = e }
-    by End = record { found = refl; next = e }
+    by (End p) = record { found = refl; next = e }
 
 near-deny : (s : List ℕ) (l m : Optional) → Near s l m → Near s (denyAfter s l) (denyAfter s m)
 near-deny s l m h = go (l .found) (m .found) (h .found)
@@ -85,7 +85,7 @@ pattern-alike s {q} {r} h = λ i. read (token-by comma s (q .next) (r .next) (h 
     read : Next → ℕ → Next → Bool → Reading Token
     read first place token some = do
       _ ← refuseIf (wordIs (barred true) first) 5 place
-      t ← wanted s token
+      t ← wanted token
       _ ← refuseIf (some && isWord t (bytes "{")) 5 (t .start)
       Read t
 

@@ -31,7 +31,7 @@ pub record Optional : Type 0 where
 abbrev pub ifWord : (word : List ℕ) → ℕ → Next → Optional
 ifWord w at (Found t) = if isWord t w then record { found = true; next = t .next } else record { found = false; next = at }
 ifWord w at (Stopped n p) = record { found = false; next = at }
-ifWord w at End = record { found = false; next = at }
+ifWord w at (End p) = record { found = false; next = at }
 
 unfoldable pub optional : (word : List ℕ) → List ℕ → ℕ → Optional
 optional w s at = ifWord w at (tokenAt noStop s at)
@@ -56,7 +56,7 @@ qualifiersAt s at =
 unfoldable pub patternFrom : List ℕ → Next → Qualifiers → Reading Token
 patternFrom s next q = do
   _ ← refuseIf (firstWord (barred true) s (q .next)) 5 (standing s (q .next))
-  t ← wanted s next
+  t ← wanted next
   _ ← refuseIf (q .some && isWord t (bytes "{")) 5 (t .start)
   Read t
 

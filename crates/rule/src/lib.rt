@@ -116,7 +116,7 @@ pub fn qualifiers_at(text: &[u8], at: Place) -> Qualifiers
 
 // The token of the pattern after the qualifiers.
 pub fn pattern_at(text: &[u8], q: Qualifiers) -> Read
-    ensures { λ r. ⌜ wanted (now (text .entry)) (seen (now (text .entry)) r) ≡ patternFrom (now (text .entry)) (seen (now (text .entry)) (q .token)) (seenQualifiers q) ⌝ }
+    ensures { λ r. ⌜ wanted (seen (now (text .entry)) r) ≡ patternFrom (now (text .entry)) (seen (now (text .entry)) (q .token)) (seenQualifiers q) ⌝ }
 {
     let next = q.next;
     let token = q.token;

@@ -19,7 +19,7 @@ use Rattle.rule_tail.specs.declared.CommaRead.the-variants as comma-read
 -- the target after a ->
 unfoldable pub targetAfter : List ℕ → ℕ → Reading Target
 targetAfter s at = do
-  t ← wanted s (tokenAt comma s at)
+  t ← wanted (tokenAt comma s at)
   _ ← refuseIf (not (nameForm (t .quoted) (t .content))) 4 (t .start)
   _ ← refuseIf (ltb 255 (length (t .content))) 9 (t .start)
   Read (record { target = t .content; next = t .next })

@@ -42,7 +42,7 @@ carriedBy t word.Bad = Refused 8 (t .start)
 -- "PERMS end at a blank or comma. Missing or quoted PERMS is 4"
 unfoldable pub permsAt : (deny : Bool) → List ℕ → ℕ → Reading Permissions
 permsAt deny s at = do
-  t ← wanted s (tokenAt comma s at)
+  t ← wanted (tokenAt comma s at)
   _ ← refuseIf (t .quoted || isWord t (bytes ",")) 4 (t .start)
   carriedBy t (wordOf deny (t .content))
 
@@ -57,7 +57,7 @@ targetAt tr s at =
       | false ↦ Read (record { target = []; next = at })
       | true ↦ do
         _ ← refuseIf (not (takesTarget tr)) 8 (standing s at)
-        t ← wanted s (tokenAt comma s (standing s at + 2))
+        t ← wanted (tokenAt comma s (standing s at + 2))
         _ ← refuseIf (not (nameForm (t .quoted) (t .content))) 4 (t .start)
         _ ← refuseIf (ltb 255 (length (t .content))) 9 (t .start)
         Read (record { target = t .content; next = t .next })
@@ -66,6 +66,6 @@ targetAt tr s at =
 -- the comma that ends a rule, and where reading goes on
 unfoldable pub commaAt : List ℕ → ℕ → Reading ℕ
 commaAt s at = do
-  t ← wanted s (tokenAt comma s at)
+  t ← wanted (tokenAt comma s at)
   _ ← refuseIf (not (isWord t (bytes ","))) 4 (t .start)
   Read (t .next)

@@ -31,7 +31,7 @@ pub fn perms_at(text: &[u8], deny: bool, at: Place) -> PermsRead
 {
     let r = tokens::next_token(text, at, b',');
     let Read::Found(t) = r else {
-        return PermsRead::Refused(tokens::stop_of(text, r));
+        return PermsRead::Refused(tokens::stop_of(r));
     };
     let start = t.start;
     if t.quoted | tokens::is_word(text, t, b",") {
@@ -93,7 +93,7 @@ fn target_after(text: &[u8], at: Place) -> TargetRead
 {
     let r = tokens::next_token(text, at, b',');
     let Read::Found(t) = r else {
-        return TargetRead::Refused(tokens::stop_of(text, r));
+        return TargetRead::Refused(tokens::stop_of(r));
     };
     let start = t.start;
     let name = tokens::content(text, t);
@@ -154,7 +154,7 @@ pub fn comma_at(text: &[u8], at: Place) -> CommaRead
 {
     let r = tokens::next_token(text, at, b',');
     let Read::Found(t) = r else {
-        return CommaRead::Refused(tokens::stop_of(text, r));
+        return CommaRead::Refused(tokens::stop_of(r));
     };
     if tokens::is_word(text, t, b",") {
         let next = t.next;

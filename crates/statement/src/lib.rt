@@ -126,7 +126,7 @@ fn start_at(text: &[u8], at: Place) -> Start
     let q = rule::qualifiers_at(text, at);
     let token = rule::pattern_at(text, q);
     let Read::Found(t) = token else {
-        return Start::Refused(stop_of(text, token));
+        return Start::Refused(stop_of(token));
     };
     Start::Pattern { q, token: t }
 }

@@ -1,9 +1,7 @@
 -- What the code's places and refusals mean over the text.
 use Prim.Native.Nat.{ℕ}
-use Prim.Native.Char.{code as byte}
 use mathlib.Core.List.{List}
-use lib.Dec.{eqb}
-use Rattle.scan.specs.Bytes.{span, if_then_else_}
+use Rattle.scan.specs.Bytes.{span}
 use Rattle.text.specs.Reading.{Reading, Refused}
 use Rattle.text.specs.declared.Place.{Place}
 use Rattle.text.specs.declared.Span.{Span}
@@ -19,7 +17,3 @@ spanOf s p = span s (p .from .0) (p .end .0)
 -- a refusal as reading gives it
 abbrev pub refusedBy : {A : Type 0} → Stop → Reading A
 refusedBy r = Refused (r .number) (r .place .0)
-
--- what a byte adds to the line
-abbrev pub feed : ℕ → ℕ
-feed b = if eqb b (byte "\n") then 1 else 0

@@ -2,8 +2,7 @@
 ghost use mathlib.Core.Path.{_≡_};
 ghost use lib.ListN.{drop};
 ghost use Rattle.scan.specs.Bytes.{startsWith};
-ghost use Rattle.text.specs.Reading.{lineOf};
-ghost use Rattle.text.specs.Places.{feed};
+ghost use Rattle.text.specs.Reading.{nowhere, refusalAt};
 
 // A place in a text: the number of bytes before it.
 pub struct Place(pub usize);
@@ -14,10 +13,12 @@ pub struct Span {
     pub end: Place,
 }
 
-// The numbers of refusals that reading gives: bad form, a word not taken, bad permissions, a size passed.
+// The numbers of refusals that reading gives: bad form, a word not taken, a bad name of a variable, bad permissions, a size passed.
 pub const BAD_FORM: u8 = 4;
 
 pub const NOT_TAKEN: u8 = 5;
+
+pub const BAD_NAME: u8 = 6;
 
 pub const BAD_PERMS: u8 = 8;
 
@@ -29,10 +30,11 @@ pub struct Stop {
     pub place: Place,
 }
 
-// A numbered refusal and its line, 0 where it has none.
+// A numbered refusal, its line and its column, both 0 where it has no place in the text.
 pub struct Refusal {
     pub number: u8,
     pub line: usize,
+    pub column: usize,
 }
 
 // The bytes after the first n.
@@ -52,24 +54,39 @@ pub fn starts_with(s: &[u8], word: &[u8]) -> bool
     scan::same_bytes(scan::span(s, 0, word.len()), word)
 }
 
-// 1 for an LF, 0 for any other byte.
-fn line_feed(b: u8) -> usize
-    ensures { λ r. ⌜ r ≡ feed b ⌝ }
+// A refusal at a place of the text: the line is 1 plus the LFs before it, the column 1 plus the bytes since the last of these.
+pub fn refusal_at(text: &[u8], stop: Stop) -> Refusal
+    ensures { λ r. ⌜ r ≡ refusalAt (now (text .entry)) (stop .number) (stop .place .0) ⌝ }
 {
-    if b == b'\n' { 1 } else { 0 }
-}
-
-// The line of a place: 1 plus the LFs before it.
-pub fn line_of(text: &[u8], at: Place) -> usize
-    ensures { λ r. ⌜ r ≡ lineOf (now (text .entry)) (at .0) ⌝ }
-{
-    let end = at.0;
+    let number = stop.number;
+    let end = stop.place.0;
     let before = scan::span(text, 0, end);
     let mut line: usize = 1;
+    let mut column: usize = 1;
     let mut i = 0;
     while i < before.len() {
-        line += line_feed(before[i]);
+        if before[i] == b'\n' {
+            line += 1;
+            column = 1;
+        } else {
+            column += 1;
+        }
         i += 1;
     }
-    line
+    Refusal {
+        number,
+        line,
+        column,
+    }
+}
+
+// A refusal that has no place in the text.
+pub fn nowhere(number: u8) -> Refusal
+    ensures { λ r. ⌜ r ≡ nowhere number ⌝ }
+{
+    Refusal {
+        number,
+        line: 0,
+        column: 0,
+    }
 }

@@ -48,7 +48,7 @@ module _ (stop : ℕ) (s : List ℕ) where
   from-place at p q e = e ∙ ap (λ (k : ℕ). tokenFrom stop k (drop k s)) q
 
   module _ (p : ℕ) where
-    pub from-end : length s ≤ p → End ≡ tokenFrom stop p (drop p s)
+    pub from-end : length s ≤ p → End p ≡ tokenFrom stop p (drop p s)
     unfolding tokenFrom
     from-end h = rw (drop-of-length-le s h)
 
@@ -75,11 +75,16 @@ module _ (stop : ℕ) (s : List ℕ) where
           unfolding tokenFrom
           from-plain k = rw (drop-cons s p 0, ne-eqb _ _ z, ne-eqb _ _ c, ne-eqb _ _ q, ne-eqb _ _ k, tokenFrom)
 
--- End is told at the text's end and nowhere else, so it needs no place
+-- End is told at the text's end and nowhere else
 abbrev isEnd : Next → Bool
 isEnd (Found t) = false
 isEnd (Stopped n p) = false
-isEnd End = true
+isEnd (End p) = true
+
+abbrev endOf : Next → ℕ
+endOf (Found t) = 0
+endOf (Stopped n p) = 0
+endOf (End p) = p
 
 either : (x : Bool) (a b : Next) → isEnd a ≡ false → isEnd b ≡ false → isEnd (if x then a else b) ≡ false
 either true a b e f = e
@@ -93,12 +98,12 @@ not-end stop p b s =
     (either (eqb b quote) _ _ (either (begins quote (drop (run inQuotes s) s)) _ _ refl refl)
     (either (eqb b stop) _ _ refl (either (begins quote (drop (run (plain stop) (b ∷ s)) (b ∷ s))) _ _ refl refl))))
 
-pub end-place : (stop : ℕ) (s : List ℕ) (at : ℕ) → at ≤ length s → tokenAt stop s at ≡ End → standing s at ≡ length s
-unfolding tokenAt
-end-place stop s at h e = go (drop (standing s at) s) (length-drop (standing s at) s) e
+pub end-place : (stop : ℕ) (s : List ℕ) (at p : ℕ) → at ≤ length s → tokenAt stop s at ≡ End p → p ≡ length s
+unfolding tokenAt tokenFrom
+end-place stop s at p h e = go (drop (standing s at) s) (length-drop (standing s at) s) e
   where
-    go : (l : List ℕ) → length l ≡ length s - standing s at → tokenFrom stop (standing s at) l ≡ End → standing s at ≡ length s
-    go [] k q = omega (arith, standing-inside s at h)
+    go : (l : List ℕ) → length l ≡ length s - standing s at → tokenFrom stop (standing s at) l ≡ End p → p ≡ length s
+    go [] k q = omega (arith, standing-inside s at h, ap endOf q)
     go (b ∷ l) k q = absurd (false≢true (sym (not-end stop (standing s at) b l) ∙ ap isEnd q))
 
 -- two places with the same thing next have the same next token
@@ -108,18 +113,18 @@ token-by stop s a b e = ap (λ (k : ℕ). tokenFrom stop k (drop k s)) e
 
 -- where the code has no token: another variant of Read
 module _ (s : List ℕ) where
-  pub no-token : (r : Read) → OneOf (1 ∷ 2 ∷ []) (tagOf the-type r) → wanted s (seen s r) ≡ refusedBy (stopOf s r)
+  pub no-token : (r : Read) → OneOf (1 ∷ 2 ∷ []) (tagOf the-type r) → wanted (seen s r) ≡ refusedBy (stopOf r)
   unfolding seen stopOf
   no-token (read.Found t) h = absurd (⊎-elim (λ e. omega arith) (λ e. omega arith) h)
   no-token (read.Stopped n p) h = refl
-  no-token read.End h = refl
+  no-token (read.End p) h = refl
 
   pub not-found : {A : Type 0} (r : Read) → OneOf (1 ∷ 2 ∷ []) (tagOf the-type r) → (f : Next → A) {a : A} →
-      ((n p : ℕ) → f (Stopped n p) ≡ a) → f End ≡ a → f (seen s r) ≡ a
+      ((n p : ℕ) → f (Stopped n p) ≡ a) → ((p : ℕ) → f (End p) ≡ a) → f (seen s r) ≡ a
   unfolding seen
   not-found (read.Found t) h f x y = absurd (⊎-elim (λ e. omega arith) (λ e. omega arith) h)
   not-found (read.Stopped n p) h f x y = x n (p .0)
-  not-found read.End h f x y = y
+  not-found (read.End p) h f x y = y (p .0)
 
   -- and where it has one
   pub seen-found : (t : code.Token) → seen s (read.Found t) ≡ Found (tokenOf s t)

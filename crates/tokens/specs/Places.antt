@@ -1,9 +1,7 @@
 -- What the code's tokens mean over the text.
 use Prim.Native.Nat.{ℕ}
 use mathlib.Core.List.{List}
-use lib.ListN.{length}
 use Rattle.scan.specs.Bytes.{span}
-use Rattle.text.specs.Places.{place}
 use Rattle.text.specs.declared.Stop.{Stop}
 use Rattle.tokens.specs.Tokens.{Token, Next, Found, Stopped, End}
 use Rattle.tokens.specs.declared.Token as code
@@ -18,10 +16,10 @@ tokenOf s t = record { start = t .start .0; content = span s (t .from .0) (t .en
 unfoldable pub seen : List ℕ → Read → Next
 seen s (read.Found t) = Found (tokenOf s t)
 seen s (read.Stopped n p) = Stopped n (p .0)
-seen s read.End = End
+seen s (read.End p) = End (p .0)
 
 -- the refusal where another token was wanted: the one that stopped reading, else 4 at the token or at the text's end
-unfoldable pub stopOf : List ℕ → Read → Stop
-stopOf s (read.Found t) = record { number = 4; place = t .start }
-stopOf s (read.Stopped n p) = record { number = n; place = p }
-stopOf s read.End = record { number = 4; place = place (length s) }
+unfoldable pub stopOf : Read → Stop
+stopOf (read.Found t) = record { number = 4; place = t .start }
+stopOf (read.Stopped n p) = record { number = n; place = p }
+stopOf (read.End p) = record { number = 4; place = p }

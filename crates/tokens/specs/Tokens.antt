@@ -3,7 +3,7 @@ use Prim.Native.Nat.{ℕ, _+_}
 use Prim.Native.Char.{code}
 use mathlib.Core.List.{List, [], _∷_}
 use mathlib.Core.Bool.{Bool, true, false, not, _||_, _&&_}
-use lib.ListN.{length, take, drop}
+use lib.ListN.{take, drop}
 use lib.Dec.{eqb}
 use Rattle.scan.specs.Bytes.{same, begins, run, if_then_else_}
 use Rattle.text.specs.Reading.{Reading, Read, Refused}
@@ -22,11 +22,12 @@ pub record Token : Type 0 where
   pub quoted : Bool
   pub next : ℕ
 
--- "Reading hands back the next token or the place where reading stopped, never both."
+-- "Reading hands back the next token or the place where reading stopped, never both."; the text's end is such a place too, and no
+-- refusal where nothing more is wanted
 pub data Next : Type 0 where
   Found : Token → Next
   Stopped : (number place : ℕ) → Next
-  End : Next
+  End : (place : ℕ) → Next
 
 -- what an unquoted token holds: a blank, # and NUL end it, and so does one byte more, the stop
 abbrev pub plain : (stop : ℕ) → ℕ → Bool
@@ -52,7 +53,7 @@ plainToken p n s =
 
 -- what stands at p: "a NUL byte is itself 4", #include is 5, the stop is a token by itself
 unfoldable pub tokenFrom : (stop p : ℕ) → List ℕ → Next
-tokenFrom stop p [] = End
+tokenFrom stop p [] = End p
 tokenFrom stop p (b ∷ s) =
     if eqb b nul then Stopped 4 p
     else if eqb b hash then Stopped 5 p
@@ -64,10 +65,10 @@ unfoldable pub tokenAt : (stop : ℕ) → List ℕ → ℕ → Next
 tokenAt stop s at = tokenFrom stop (standing s at) (drop (standing s at) s)
 
 -- a token where one is wanted; else the refusal, at the text's end 4
-abbrev pub wanted : List ℕ → Next → Reading Token
-wanted s (Found t) = Read t
-wanted s (Stopped n p) = Refused n p
-wanted s End = Refused 4 (length s)
+abbrev pub wanted : Next → Reading Token
+wanted (Found t) = Read t
+wanted (Stopped n p) = Refused n p
+wanted (End p) = Refused 4 p
 
 -- an unquoted token of these bytes
 abbrev pub isWord : Token → (word : List ℕ) → Bool

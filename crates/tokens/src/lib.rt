@@ -20,11 +20,11 @@ pub struct Token {
     pub next: Place,
 }
 
-// The next token, or the place where reading stopped, or the text's end.
+// The next token, or the place where reading stopped: with a refusal, or at the text's end.
 pub enum Read {
     Found(Token),
     Stopped { number: u8, place: Place },
-    End,
+    End(Place),
 }
 
 // The bytes of a token.
@@ -45,8 +45,8 @@ pub fn is_word(text: &[u8], t: Token, word: &[u8]) -> bool
 }
 
 // The refusal where another token was wanted.
-pub fn stop_of(text: &[u8], r: Read) -> Stop
-    ensures { λ s. ⌜ s ≡ stopOf (now (text .entry)) r ⌝ }
+pub fn stop_of(r: Read) -> Stop
+    ensures { λ s. ⌜ s ≡ stopOf r ⌝ }
 {
     match r {
         Read::Found(t) => {
@@ -57,9 +57,9 @@ pub fn stop_of(text: &[u8], r: Read) -> Stop
             }
         }
         Read::Stopped { number, place } => Stop { number, place },
-        Read::End => Stop {
+        Read::End(place) => Stop {
             number: BAD_FORM,
-            place: Place(text.len()),
+            place,
         },
     }
 }
@@ -165,7 +165,7 @@ pub fn next_token(text: &[u8], at: Place, stop: u8) -> Read
 {
     let p = blanks::standing_at(text, at).0;
     if text.len() <= p {
-        return Read::End;
+        return Read::End(Place(p));
     }
     let b = text[p];
     if b == 0 {

@@ -103,7 +103,7 @@ carries-few t Bad h = tt
 perms-few : (deny : Bool) (s : List ℕ) (at : ℕ) → Holds Few (permsAt deny s at)
 unfolding permsAt
 perms-few deny s at =
-    any-then Few (wanted s (tokenAt comma s at)) (λ t. refuseIf (t .quoted || isWord t (bytes ",")) 4 (t .start) >>= λ _. carriedBy t (wordOf deny (t .content)))
+    any-then Few (wanted (tokenAt comma s at)) (λ t. refuseIf (t .quoted || isWord t (bytes ",")) 4 (t .start) >>= λ _. carriedBy t (wordOf deny (t .content)))
     (λ t. unless-then Few (t .quoted || isWord t (bytes ",")) 4 (t .start) (carriedBy t (wordOf deny (t .content)))
     (λ _. carries-few t (wordOf deny (t .content)) (word-below deny (t .content))))
 

@@ -3,6 +3,7 @@
 mod draft;
 mod faults;
 mod pattern;
+mod places;
 mod rng;
 mod sizes;
 
@@ -22,7 +23,7 @@ impl Stream {
         // Each size several times, for its varieties.
         let mut waiting = Vec::new();
         for case in sizes::CASES {
-            for turn in 0..16 {
+            for turn in 0..40 {
                 waiting.push(case(&mut rng, turn % 2));
             }
         }
@@ -61,7 +62,12 @@ fn text(rng: &mut Rng) -> (Draft, Vec<u8>) {
     let mut draft = Draft::new(rng);
     let mut text;
     match rng.below(100) {
-        0..=54 => text = draft.text(rng),
+        0..=47 => text = draft.text(rng),
+        48..=54 => {
+            text = places::text(rng);
+            draft = Draft::default();
+            draft.names.push(b"/p".to_vec());
+        }
         55..=71 => {
             faults::tokens(rng, &mut draft);
             text = draft.text(rng);

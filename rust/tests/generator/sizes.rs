@@ -6,7 +6,7 @@ use super::Request;
 /// A case at its limit, or one past it.
 pub type Case = fn(&mut Rng, usize) -> Request;
 
-pub const CASES: [Case; 18] = [
+pub const CASES: [Case; 19] = [
     profiles,
     rules,
     variables,
@@ -17,6 +17,7 @@ pub const CASES: [Case; 18] = [
     target_bytes,
     text_bytes,
     text_lines,
+    text_columns,
     expansions_by_variables,
     expansions_by_choices,
     expansions_by_values,
@@ -82,10 +83,13 @@ fn variables(rng: &mut Rng, past: usize) -> Request {
     for index in 1..count {
         text += &format!("@{{V{index}}}=/v{index}\n");
     }
+    text += rng.word(&["", "  ", "\r\n\t"]);
     text += rng.word(&[
         "@{L}=/last\n",
         "@{L}=/last\n",
         "@{L}=/last\n",
+        "@{L}=\n",
+        "@{L} = \"x\n",
         "@{L}+=/last\n",
         "@{L}\n",
     ]);
@@ -194,6 +198,14 @@ fn text_bytes(rng: &mut Rng, past: usize) -> Request {
 fn text_lines(rng: &mut Rng, past: usize) -> Request {
     let end = rng.word(&["", "x", "@{A}=", "/p{", "profile", "#include", "\0"]);
     let text = "\n".repeat(65_535 + past - end.len()) + end;
+    ask(rng, text, "/p", "/a")
+}
+
+/// A line as long as can be; most are refused at the text's end.
+fn text_columns(rng: &mut Rng, past: usize) -> Request {
+    let ends = ["/p{", "profile", "/p{/a", "@{A}", "@{1}=x", "/p{/a r,q"];
+    let (end, blank) = (rng.word(&ends), rng.word(&[" ", "\r", "\t"]));
+    let text = blank.repeat(65_535 + past - end.len()) + end;
     ask(rng, text, "/p", "/a")
 }
 

@@ -1,5 +1,6 @@
-//! A second, independent implementation of document 01, written from the
-//! paper alone. It is plain rather than fast; the library is compared with it.
+//! A second, independent implementation of document 01 and of document 02 up
+//! to request Two, written from the papers alone. It is plain rather than
+//! fast; the library is compared with it.
 
 #![allow(dead_code)]
 
@@ -7,11 +8,12 @@ mod judge;
 mod pattern;
 pub mod text;
 
-/// A refusal's number and line.
+/// A refusal's number, line and column.
 #[derive(Clone, Copy, Debug, PartialEq, Eq)]
 pub struct Refusal {
     pub number: u8,
     pub line: u32,
+    pub column: u32,
 }
 
 /// "one of: not asked, denied, conflict, or a mode", the mode as written.
@@ -40,7 +42,14 @@ pub fn decide(
     asked: u8,
     owner: bool,
 ) -> Result<Answer, Refusal> {
-    let refuse = |number| Err(Refusal { number, line: 0 });
+    // "Lines 0 go with column 0."
+    let refuse = |number| {
+        Err(Refusal {
+            number,
+            line: 0,
+            column: 0,
+        })
+    };
     if text.len() > 65_535 {
         return refuse(1);
     }

@@ -138,10 +138,17 @@ impl<'a> Reader<'a> {
         self.rest().starts_with(mark)
     }
 
-    /// "A line is 1 plus the LFs before the token"
+    /// "A line is 1 plus the LFs before the token"; the column is the "bytes
+    /// since the last LF before the token's first byte, counted from 1; at the
+    /// text's end, one past the last byte of that line".
     fn refuse<T>(&self, number: u8, at: usize) -> Result<T, Refusal> {
-        let line = 1 + self.text[..at].iter().filter(|b| **b == b'\n').count() as u32;
-        Err(Refusal { number, line })
+        let before = self.text[..at].split(|b| *b == b'\n');
+        let lines: Vec<&[u8]> = before.collect();
+        Err(Refusal {
+            number,
+            line: lines.len() as u32,
+            column: 1 + lines[lines.len() - 1].len() as u32,
+        })
     }
 
     /// Goes to the next token over blanks and comments; false at the end.
@@ -246,12 +253,13 @@ fn is_variable_name(name: &[u8]) -> bool {
 
 /// "`@{NAME}` then `=` or `+=`, [...] then one or more values"
 fn read_assignment(reader: &mut Reader, file: &mut File) -> Result<(), Refusal> {
-    let name_at = reader.at;
-    let name = read_variable_name(reader)?;
-    // "No assignment after the first profile: 4."
+    // "No assignment after the first profile: 4", at its `@{`.
     if !file.profiles.is_empty() {
-        return reader.refuse(4, name_at);
+        return reader.refuse(4, reader.at);
     }
+    // "An assigned variable's name begins after its `@{`."
+    let name_at = reader.at + 2;
+    let name = read_variable_name(reader)?;
     if !is_variable_name(name) {
         return reader.refuse(6, name_at);
     }
@@ -282,13 +290,16 @@ fn read_assignment(reader: &mut Reader, file: &mut File) -> Result<(), Refusal> 
 }
 
 /// "its name runs to the next `}`, and a blank, `#`, NUL or the end before
-/// that is 4 at the `@{`"
+/// that is 4 at the `@{`"; a `"` in it is 4 at the name.
 fn read_variable_name<'a>(reader: &mut Reader<'a>) -> Result<&'a [u8], Refusal> {
     let at = reader.at;
     let name = &reader.run(b"}")[2..];
     reader.at += 2 + name.len();
-    if !reader.stands(b"}") || name.contains(&b'"') {
+    if !reader.stands(b"}") {
         return reader.refuse(4, at);
+    }
+    if name.contains(&b'"') {
+        return reader.refuse(4, at + 2);
     }
     reader.at += 1;
     Ok(name)
@@ -306,8 +317,10 @@ fn read_values(
     loop {
         reader.skip_blanks_in_line();
         match reader.rest().first() {
-            None | Some(b'\n' | b'#' | 0) if !any => return reader.refuse(4, operator_at),
-            None | Some(b'\n' | b'#' | 0) => return Ok(()),
+            // A NUL is itself 4, here or where the next statement is wanted.
+            Some(0) => return reader.refuse(4, reader.at),
+            None | Some(b'\n' | b'#') if !any => return reader.refuse(4, operator_at),
+            None | Some(b'\n' | b'#') => return Ok(()),
             Some(_) => {}
         }
         let value = read_value(reader, file, index)?;

@@ -43,7 +43,7 @@ impl Request {
         reference::decide(&self.text, &self.name, &self.path, self.asked, self.owner)
     }
 
-    /// Fields 6 to 9 of the library's answer.
+    /// The fields from 6 of the library's answer.
     pub fn by_library(&self) -> String {
         let asked = sidluqethe::Perms(self.asked);
         given(sidluqethe::decide(
@@ -54,12 +54,8 @@ impl Request {
     /// The same by reading and asking, in the order of one request: what is
     /// wrong with the request comes before what is wrong with the text.
     pub fn by_policy(&self) -> String {
-        let request = sidluqethe::Request {
-            profile: &self.name,
-            path: &self.path,
-            asked: sidluqethe::Perms(self.asked),
-            owner: self.owner,
-        };
+        let asked = sidluqethe::Perms(self.asked);
+        let request = sidluqethe::Request::new(&self.name, &self.path, asked).owner(self.owner);
         let policy = match sidluqethe::Policy::read(&self.text[..]) {
             Ok(policy) => policy,
             Err(refusal) if refusal.number == 1 => return given(Err(refusal)),
@@ -75,10 +71,10 @@ impl Request {
     }
 }
 
-/// Fields 6 to 9 of the library's answer.
+/// The fields from 6 of the library's answer.
 fn given(answer: Result<sidluqethe::Answer, sidluqethe::Refusal>) -> String {
     match answer {
-        Err(refusal) => refused(refusal.number, refusal.line),
+        Err(refusal) => refused(refusal.number, refusal.line, refusal.column),
         Ok(answer) => answered(
             answer.granted.0,
             answer.recorded.0,
@@ -88,10 +84,10 @@ fn given(answer: Result<sidluqethe::Answer, sidluqethe::Refusal>) -> String {
     }
 }
 
-/// Fields 6 to 9 of the reference's answer.
+/// The fields from 6 of the reference's answer.
 pub fn fields(answer: &Result<Answer, Refusal>) -> String {
     match answer {
-        Err(refusal) => refused(refusal.number, refusal.line),
+        Err(refusal) => refused(refusal.number, refusal.line, refusal.column),
         Ok(answer) => {
             let execute = match answer.execute {
                 Execute::NotAsked => "-",
@@ -105,8 +101,8 @@ pub fn fields(answer: &Result<Answer, Refusal>) -> String {
     }
 }
 
-pub fn refused(number: u8, line: u32) -> String {
-    format!("refused\t{number}\t{line}\t-")
+pub fn refused(number: u8, line: u32, column: u32) -> String {
+    format!("refused\t{number}\t{line}\t{column}\t-")
 }
 
 pub fn answered(granted: u8, recorded: u8, execute: &str, target: Option<&[u8]>) -> String {

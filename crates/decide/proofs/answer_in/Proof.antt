@@ -5,6 +5,7 @@ use Rattle.pattern.specs.Table.{env}
 use Rattle.statement.specs.Steps.{rulesFrom}
 use Rattle.findings.specs.Findings.{Access, findings}
 use Rattle.findings.specs.Weighed.{Weighed}
+use Rattle.answer.specs.Answers.{refusal}
 use Rattle.answer.specs.Parts.{answerTo}
 use Rattle.answer.proofs.Laws.{answer-gathered}
 use Rattle.weigh.proofs.Laws.{gathered-fit}
@@ -22,17 +23,20 @@ enum-known-r c = search needs
 enum-told : tie.Need-enum-told
 enum-told c = search needs
 
+nowhere-requires : tie.Need-nowhere-requires
+nowhere-requires c κs = search needs
+
 refused-requires : tie.Need-refused-requires
 refused-requires c κs = search needs
 
 returns : tie.Need-returns
 returns c =
-    let c-find = c .before .before .before .find in
-    let c-args = c .before .before .before .before .before .before .before .args in
+    let c-find = c .before .before .before .before .find in
+    let c-args = c .before .before .before .before .before .before .before .before .args in
     let s = now (c-args .text) in
     let vs = env s (now (c-args .vars)) (c-args .n) in
     let q : Access = record { path = now (c-args .path); owner = c-args .owner } in
-    c .refused .ensures ∙ sym (answer-by vs q (c-args .asked .0) s (now (c-args .profiles)) (c-args .count) (now (c-args .name)) (c-find .result) (c-find .ensures) _ (c .before .enum-told .given .1))
+    c .refused .ensures ∙ ap refusal (c .before .nowhere .ensures) ∙ sym (answer-by vs q (c-args .asked .0) s (now (c-args .profiles)) (c-args .count) (now (c-args .name)) (c-find .result) (c-find .ensures) _ (c .before .before .enum-told .given .1))
 
 findings-of-requires : tie.Need-findings-of-requires
 findings-of-requires c κs = search needs
@@ -63,6 +67,7 @@ answer-in-spec =
     find-requires
     enum-known-r
     enum-told
+    nowhere-requires
     refused-requires
     returns
     findings-of-requires

@@ -22,7 +22,7 @@ name-from-requires c κs = search needs
 
 returns : tie.Need-returns
 unfolding nameAt nameFrom bytes
-returns c = c .name-from .ensures ∙ rw (← c .before .before .next-token .ensures, not-found (now (c .before .before .before .before .args .text)) (c .before .before .next-token .result) (c .before .match .keys2) (ifWord (bytes "profile") (c .before .before .before .before .args .at .0)) (λ n p. refl) refl, nameAt)
+returns c = c .name-from .ensures ∙ rw (← c .before .before .next-token .ensures, not-found (now (c .before .before .before .before .args .text)) (c .before .before .next-token .result) (c .before .match .keys2) (ifWord (bytes "profile") (c .before .before .before .before .args .at .0)) (λ n p. refl) (λ p. refl), nameAt)
 
 slice-aggregate-is-word : tie.Need-slice-aggregate-is-word
 slice-aggregate-is-word c = search needs

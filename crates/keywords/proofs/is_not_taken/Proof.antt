@@ -29,7 +29,7 @@ returns-2 c =
     let a = (c .before .before .before .before .before .before .args) in
     let p = (c .before .before .before .before .standing-at) in
     let k = c .before .next-token .ensures ∙ same-token (a .inside) (now (a .text)) (a .at .0) (p .result .0) (p .ensures) in
-    rw (← k) (sym (not-found (now (a .text)) (c .before .next-token .result) (c .match .keys2) (wordIs (barred (a .inside))) (λ n p. refl) refl))
+    rw (← k) (sym (not-found (now (a .text)) (c .before .next-token .result) (c .match .keys2) (wordIs (barred (a .inside))) (λ n p. refl) (λ p. refl)))
 
 content-requires : tie.Need-content-requires
 content-requires c κs = search needs

@@ -17,8 +17,8 @@ least-requires c κs = search needs
 profiles-of-requires : tie.Need-profiles-of-requires
 profiles-of-requires c κs = search needs
 
-line-of-requires : tie.Need-line-of-requires
-line-of-requires c κs = search needs
+refusal-of-requires : tie.Need-refusal-of-requires
+refusal-of-requires c κs = search needs
 
 returns : tie.Need-returns
 returns c =
@@ -27,7 +27,7 @@ returns c =
     let c-preamble-at = c .before .before .before .before .before .before .before .before .before .before .before .before .before .preamble-at in
     let s = now (c .before .before .before .before .before .before .before .before .before .before .before .before .before .before .before .before .args .text) in
     rw (← c-least .ensures) (
-      file-read (c-least .result) s _ (c-preamble-at .result) (c-profiles-of .result) (c-preamble-at .ensures) (c-profiles-of .ensures .0) _ refl refl refl (c .line-of .ensures) refl refl,
+      file-read (c-least .result) s _ (c-preamble-at .result) (c-profiles-of .result) (c-preamble-at .ensures) (c-profiles-of .ensures .0) _ refl refl (c .refusal-of .ensures) refl refl,
       file-kept (c-least .result) s _ (c-preamble-at .result) (c-profiles-of .result) (c-preamble-at .ensures) (c-profiles-of .ensures .0) _ refl (c-profiles-of .ensures .1) refl refl refl,
     )
 
@@ -39,5 +39,5 @@ read-spec =
     sizes-of-requires
     least-requires
     profiles-of-requires
-    line-of-requires
+    refusal-of-requires
     returns)

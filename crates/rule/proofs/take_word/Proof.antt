@@ -12,7 +12,7 @@ enum-known-token c = search needs
 
 returns : tie.Need-returns
 unfolding optional
-returns c = λ k. record { is = rw (← k, optional) (sym (not-found (now (c .before .before .before .args .text)) (c .before .before .before .args .token) (c .match .keys2) (ifWord (now (c .before .before .before .args .word)) (c .before .before .before .args .at .0)) (λ n p. refl) refl)); token = k }
+returns c = λ k. record { is = rw (← k, optional) (sym (not-found (now (c .before .before .before .args .text)) (c .before .before .before .args .token) (c .match .keys2) (ifWord (now (c .before .before .before .args .word)) (c .before .before .before .args .at .0)) (λ n p. refl) (λ p. refl))); token = k }
 
 is-word-requires : tie.Need-is-word-requires
 is-word-requires c κs = search needs

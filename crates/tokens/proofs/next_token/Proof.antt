@@ -51,11 +51,11 @@ returns-4 c =
     from-place (a .stop) s (a .at .0) (p .result .0) (p .ensures)
     (c .quoted-token .ensures ∙ from-quote (a .stop) s (p .result .0) (omega arith) (c .before .before .before .if2 .left) (c .before .before .if3 .left) (c .before .if4 .taken))
 
-add-t15 : tie.Need-add-t15
-add-t15 c = search needs
+add-t16 : tie.Need-add-t16
+add-t16 c = search needs
 
-add-t17 : tie.Need-add-t17
-add-t17 c = search needs
+add-t18 : tie.Need-add-t18
+add-t18 c = search needs
 
 returns-5 : tie.Need-returns-5
 unfolding seen
@@ -88,8 +88,8 @@ next-token-spec =
     returns-3
     quoted-token-requires
     returns-4
-    add-t15
-    add-t17
+    add-t16
+    add-t18
     returns-5
     plain-token-requires
     returns-6)

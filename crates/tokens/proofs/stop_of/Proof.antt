@@ -9,8 +9,8 @@ enum-known-r c = search needs
 enum-known-r-2 : tie.Need-enum-known-r-2
 enum-known-r-2 c = search needs
 
-enum-told : tie.Need-enum-told
-enum-told c = search needs
+enum-known-r-3 : tie.Need-enum-known-r-3
+enum-known-r-3 c = search needs
 
 returns : tie.Need-returns
 unfolding stopOf
@@ -22,8 +22,8 @@ returns-2 c = rw (c .before .r2 .given .1)
 
 returns-3 : tie.Need-returns-3
 unfolding stopOf
-returns-3 c = rw (c .enum-told .given .1)
+returns-3 c = rw (c .before .r3 .given .1)
 
 pub stop-of-spec : {M : Type 1} → statement M
 stop-of-spec =
-    tie.close (tie.spec enum-known-r enum-known-r-2 enum-told returns returns-2 returns-3)
+    tie.close (tie.spec enum-known-r enum-known-r-2 enum-known-r-3 returns returns-2 returns-3)
