@@ -1,15 +1,16 @@
 -- What is gathered record by record is the findings of the rules that count, and the answer in the end is the one defined.
-use Prim.Native.Nat.{ℕ, zero, suc, _+_, _*_, _-_, _<_, _≤_, min}
+use Prim.Native.Nat.{ℕ, zero, suc, _+_, _*_, _-_, min}
 use mathlib.Core.Path.{_≡_, refl, sym, ap, ap₂, _∙_}
 use mathlib.Core.List.{List, [], _∷_, _++_, map, append-assoc, append-nil}
 use mathlib.Core.Bool.{Bool, true, false, not, _&&_, _||_, and-false, false≢true}
 use native.Mathlib.Omega.{arith}
 use lib.ListN.{length, getD, take, drop}
-use lib.Seq.{getD-drop, take-all}
+use lib.Seq.{getD-drop}
 use lib.Dec.{eqb, ltb, leb}
 use borrow.Author.Tests.{eqb-true, ne-eqb, ltb-true, ltb-false, le-leb}
 use Rattle.scan.specs.Bytes.{same, some, span, if_then_else_}
 use Rattle.scan.proofs.Bools.{and-left}
+use Rattle.codes.proofs.Laws.{take-least}
 use Rattle.text.specs.Reading.{nowhere}
 use Rattle.perms.specs.declared.Perms.{Perms}
 use Rattle.request.specs.Requests.{badAsked, badPath}
@@ -147,19 +148,6 @@ among-number vs q asked n es i (m ∷ ms) = go (same m n) (among-number vs q ask
     go true h = refl
     go false h = h
 
-take-least : {A : Type 0} (k : ℕ) (xs : List A) → take (min (length xs) k) xs ≡ take k xs
-take-least k xs = go (ltb k (length xs)) refl
-  where
-    go : (b : Bool) → ltb k (length xs) ≡ b → take (min (length xs) k) xs ≡ take k xs
-    go true e =
-        let l : k < length xs = ltb-true k (length xs) e in
-        let m : min (length xs) k ≡ k = omega arith in
-        ap (λ (m : ℕ). take m xs) m
-    go false e =
-        let l : length xs ≤ k = ltb-false k (length xs) e in
-        let m : min (length xs) k ≡ length xs = omega arith in
-        ap (λ (m : ℕ). take m xs) m ∙ take-all (length xs) xs (omega arith) ∙ sym (take-all k xs l)
-
 module _ (text head : List ℕ) (table : List Record) (n path : List ℕ) (asked : Perms) (owner : Bool) where
   abbrev q : Access
   q = record { path = path; owner = owner }
@@ -179,7 +167,7 @@ module _ (text head : List ℕ) (table : List Record) (n path : List ℕ) (asked
   by-number fits (suc j) =
       let vs : List Variable = env text head (getD head 1248 0) in
       let es : List Entry = map (entryOf text) (take (getD head 1250 0) table) in
-      ap (λ (w : Weighed). answerTo w (asked .0)) (ap (λ (l : List Record). gatheredIn text vs q (wordsOf path) j (map (entryOf text) l) nothing) (take-least (getD head 1250 0) table)
+      ap (λ (w : Weighed). answerTo w (asked .0)) (ap (λ (l : List Record). gatheredIn text vs q (wordsOf path) j (map (entryOf text) l) nothing) (sym (take-least (getD head 1250 0) (min (length table) (getD head 1250 0)) table (omega arith)))
       ∙ gathered-counts text vs q fits j es)
       ∙ answer-gathered (findings vs q (rulesFor vs path j es)) (asked .0)
 
@@ -210,14 +198,6 @@ module _ (text head : List ℕ) (table : List Record) (n path : List ℕ) (asked
           ∙ among-number (env text head (getD head 1248 0)) q (asked .0) n (map (entryOf text) (take (getD head 1250 0) table)) 0 names
 
 -- ---- by what the code asks
-
-pub not-true : (b : Bool) → not b ≡ true → b ≡ false
-not-true true h = sym h
-not-true false h = refl
-
-pub not-false : (b : Bool) → not b ≡ false → b ≡ true
-not-false true h = refl
-not-false false h = sym h
 
 module _ (text : List ℕ) (vs : List Variable) (q : Access) (e : Entry) (w : Weighed) where
   abbrev matched : Matched

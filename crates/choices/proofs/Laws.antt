@@ -9,6 +9,7 @@ use lib.Dec.{ltb}
 use borrow.Author.Tests.{ltb-false}
 use Rattle.scan.specs.Bytes.{every, some, same}
 use Rattle.scan.proofs.Laws.{some-append}
+use Rattle.scan.proofs.Bools.{neither-left, neither-right}
 use Rattle.pattern.specs.Pieces.{Piece, Byte, Is, Use, Bad, parts}
 use Rattle.pattern.specs.Expansions.{Variable, across, listing, ofParts, oneOf, ofName, ofItem, ofItems, expansions, isLiteral}
 use Rattle.pattern.specs.Items.{Item, Single, Among}
@@ -21,14 +22,6 @@ use Rattle.front.proofs.Laws.{across-one, keptAfter, kept-front, plain-expansio
 use Rattle.choices.specs.Choices.{valuesIn, leadsOn, someLeads, opensItem, opens}
 
 -- ---- Bool
-
-or-left : (a b : Bool) → (a || b) ≡ false → a ≡ false
-or-left false b e = refl
-or-left true b e = e
-
-or-right : (a b : Bool) → (a || b) ≡ false → b ≡ false
-or-right false b e = e
-or-right true b e = absurd (false≢true (sym e))
 
 -- ---- each of some expansions before each of others
 
@@ -74,8 +67,8 @@ module _ (p : List Piece → Bool) where
       let h : (yt || yts) ≡ false = sym (some-append p (map (λ x. x ++ t) ys) (across ys ts)) ∙ f in
       some-append p (map (λ x. x ++ t) (xs ++ ys)) (across (xs ++ ys) ts)
       ∙ ap₂ _||_
-      (ap (some p) (map-append (λ x. x ++ t) xs ys) ∙ some-append p (map (λ x. x ++ t) xs) (map (λ x. x ++ t) ys) ∙ ap₂ _||_ (or-left xt xts g) (or-left yt yts h))
-      (none-either xs ys ts (or-right xt xts g) (or-right yt yts h))
+      (ap (some p) (map-append (λ x. x ++ t) xs ys) ∙ some-append p (map (λ x. x ++ t) xs) (map (λ x. x ++ t) ys) ∙ ap₂ _||_ (neither-left xt xts g) (neither-left yt yts h))
+      (none-either xs ys ts (neither-right xt xts g) (neither-right yt yts h))
 
 -- ---- a value and what follows it
 
@@ -121,17 +114,17 @@ module _ (keep : List Piece → Bool) (literal : (b : ℕ) (x : List Piece) → 
           (x && keptAfter keep after (F (drop (length f) v)) (drop (length f) path)) ≡ false
       go false k = refl
       go true k =
-          let whole : length v ≤ length f = ltb-false (length f) (length v) (or-left _ _ k) in
+          let whole : length v ≤ length f = ltb-false (length f) (length v) (neither-left _ _ k) in
           rw (drop-of-length-le v whole, value-end g ts)
-          (kept-front keep literal (expansions vs) (plain-expansions vs) rest (drop (length f) path) after ∙ rw (or-right (ltb (length f) (length v)) _ k))
+          (kept-front keep literal (expansions vs) (plain-expansions vs) rest (drop (length f) path) after ∙ rw (neither-right (ltb (length f) (length v)) _ k))
 
   values-none : (g : List ℕ → List (List Piece)) (ss : List (List ℕ)) → someLeads slash ss rest path ≡ false → None (oneOf listing g ss)
   unfolding some oneOf
   values-none g [] h = none-across _ (expansions vs rest)
   values-none g (s ∷ ss) h =
       none-either _ (ofParts listing g (parts 0 s)) (oneOf listing g ss) (expansions vs rest)
-      (value-none g s (or-left (leadsOn slash s rest path) (someLeads slash ss rest path) h))
-      (values-none g ss (or-right (leadsOn slash s rest path) (someLeads slash ss rest path) h))
+      (value-none g s (neither-left (leadsOn slash s rest path) (someLeads slash ss rest path) h))
+      (values-none g ss (neither-right (leadsOn slash s rest path) (someLeads slash ss rest path) h))
 
   name-none : (ws : List Variable) (n : List ℕ) → someLeads slash (valuesIn ws n) rest path ≡ false → None (ofName listing ws n)
   unfolding valuesIn ofName

@@ -5,11 +5,11 @@ use mathlib.Core.Bool.{Bool, true, false}
 use Prim.Native.Nat.{ℕ, zero, suc, _+_, _*_, _-_, _≤_, _<_, min}
 use Prim.Native.Char.{code}
 use native.Mathlib.Omega.{arith}
-use lib.ListN.{length, drop, getD, length-drop}
-use lib.Seq.{take-all}
+use lib.ListN.{length, drop, getD}
 use lib.Dec.{ltb}
 use borrow.Author.Tests.{lt-ltb, le-ltb, ltb-true, ltb-false}
 use Rattle.scan.specs.Bytes.{some, same, span}
+use Rattle.scan.proofs.Laws.{span-rest}
 use Rattle.pattern.specs.Items.{before, alternatives}
 use Rattle.pattern.specs.Places.{itemAt, itemEnd}
 use Rattle.pattern.specs.Expansions.{Variable}
@@ -28,13 +28,10 @@ use Rattle.choices.specs.Choices.{valuesIn, leadsOn, someLeads, opensIte
 
 -- ---- a value
 
-span-from : (s : List ℕ) (k : ℕ) → span s k (length s) ≡ drop k s
-span-from s k = take-all (length s - k) (drop k s) (omega (arith, length-drop k s))
-
 -- what was told of the front of a value
 module _ (value rest path : List ℕ) (slash : Bool) (first : Led) (told : first ≡ leadOf slash (span value 0 (length value)) path) where
   of-value : first ≡ leadOf slash value path
-  of-value = told ∙ ap (λ (s : List ℕ). leadOf slash s path) (span-from value 0)
+  of-value = told ∙ ap (λ (s : List ℕ). leadOf slash s path) (span-rest value 0)
 
   pub leads-unfit : first .fits ≡ false → false ≡ leadsOn slash value rest path
   unfolding leadsOn
@@ -49,7 +46,7 @@ module _ (value rest path : List ℕ) (slash : Bool) (first : Led) (told : first
       next ≡ leadOf (first .slash) (span rest 0 (length rest)) p → next .fits ≡ leadsOn slash value rest path
   unfolding leadsOn
   leads-whole e h next p q t =
-      let u : next ≡ leadOf (first .slash) rest (drop (first .len) path) = t ∙ rw (span-from rest 0, q, span-from path (first .len)) in
+      let u : next ≡ leadOf (first .slash) rest (drop (first .len) path) = t ∙ rw (span-rest rest 0, q, span-rest path (first .len)) in
       ap (λ (l : Led). l .fits) u
       ∙ lead-fits (first .slash) rest (drop (first .len) path)
       ∙ rw (
@@ -150,7 +147,7 @@ module _ (text vars : List ℕ) where
 -- ---- the first item, as it was read
 
 pub rest-read : {s w rest : List ℕ} {k : ℕ} → s ≡ w → k ≡ itemEnd s 0 → rest ≡ span s k (length s) → rest ≡ drop (itemEnd w 0) w
-rest-read {s = s} {k = k} e f g = g ∙ span-from s k ∙ rw (f, e)
+rest-read {s = s} {k = k} e f g = g ∙ span-rest s k ∙ rw (f, e)
 
 module _ (vs : List Variable) (slash : Bool) (text w path : List ℕ) (i : ItemRead) (read : seenItem text i ≡ itemAt w 0) where
   opened : opensItem vs slash (seenItem text i) (drop (itemEnd w 0) w) path ≡ opens vs slash w path

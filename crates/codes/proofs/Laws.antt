@@ -37,7 +37,7 @@ every-literal text (c ∷ cs) = ap₂ _&&_ (literal-decode text c) (every-litera
 
 -- ---- the first codes, as many as counted
 
-pub take-least : (n m : ℕ) (l : List ℕ) → m ≡ min n (length l) → take n l ≡ take m l
+pub take-least : {A : Type 0} (n m : ℕ) (l : List A) → m ≡ min n (length l) → take n l ≡ take m l
 take-least n m l e = go (leb n (length l)) refl
   where
     go : (t : Bool) → leb n (length l) ≡ t → take n l ≡ take m l

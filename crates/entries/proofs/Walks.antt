@@ -7,6 +7,7 @@ use lib.ListN.{length, getD, set, take, drop, length-append, length-map, length-
 use lib.Seq.{length-take-le, take-suc-set}
 use native.Mathlib.Numerals.{add-one}
 use native.Mathlib.Omega.{arith}
+use Rattle.scan.proofs.Laws.{no-length}
 use Rattle.entries.specs.Entries.{Entry, entryOf, policyIn}
 use Rattle.entries.specs.Filled.{Filled, toldBy}
 use Rattle.entries.specs.Ahead.{Judged, cursorAt, oneOf, policyAhead, restFrom}
@@ -14,10 +15,6 @@ use Rattle.entries.specs.declared.Cursor.{Cursor}
 use Rattle.entries.specs.declared.Next.{Next}
 use Rattle.entries.specs.declared.Record.{Record}
 use Rattle.entries.specs.declared.Reading as code
-
-no-length : {A : Type 0} (l : List A) → length l ≡ 0 → l ≡ []
-no-length [] e = refl
-no-length (x ∷ l) e = absurd (omega arith)
 
 module _ (text head : List ℕ) where
   -- all that is to come from the first profile on

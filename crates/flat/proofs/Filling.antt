@@ -7,6 +7,7 @@ use native.Mathlib.Omega.{arith}
 use lib.ListN.{length, getD, take, drop, length-append, length-map}
 use lib.Seq.{paste, length-paste, drop-paste, drop-drop}
 use Rattle.scan.specs.Bytes.{if_then_else_}
+use Rattle.scan.proofs.Laws.{no-length}
 use Rattle.pattern.specs.Expansions.{Variable}
 use Rattle.pattern.specs.Table.{env}
 use Rattle.entries.specs.Entries.{Entry, Policy, Short, Rejected, Accepted, entryOf, namesFrom, policyIn, readOf}
@@ -23,10 +24,6 @@ use Rattle.flat.proofs.Round.{paste-before, records-same, records-snoc}
 use Rattle.flat.proofs.Walk.{records-length, records-take}
 
 -- ---- lists
-
-none-long : {A : Type 0} (l : List A) → length l ≡ 0 → l ≡ []
-none-long [] e = refl
-none-long (x ∷ xs) e = absurd (omega arith)
 
 -- ---- the walk
 
@@ -148,7 +145,7 @@ module _ (text memory judged m : List ℕ) (rooms : ℕ) (r : Reading) (at : Cur
       let k : n ≡ length whole = rw e at (j .ahead) in
       let filled : List Entry = map (entryOf text) (recordsFrom n m 1256) in
       let l : length filled ≡ n = length-map (recordsFrom n m 1256) (entryOf text) ∙ records-length n m 1256 in
-      let z : restFrom text judged at ≡ [] = none-long (restFrom text judged at) (omega (arith, l, k, length-append filled (restFrom text judged at), ap length (f .done))) in
+      let z : restFrom text judged at ≡ [] = no-length (restFrom text judged at) (omega (arith, l, k, length-append filled (restFrom text judged at), ap length (f .done))) in
       sym (append-nil filled) ∙ ap (λ (x : List Entry). filled ++ x) (sym z) ∙ f .done
 
   entries-filled : (r .short || r .refused) ≡ false → map (entryOf text) (take (getD m 1250 0) (recordsIn m)) ≡ whole

@@ -1,12 +1,12 @@
 -- A path is matched where it begins with a pattern's front, and what follows it is matched by what follows the front.
 use mathlib.Core.Path.{_≡_, refl, sym, ap, ap₂, _∙_}
 use mathlib.Core.List.{List, [], _∷_, map}
-use mathlib.Core.Bool.{Bool, true, false, not, _&&_, _||_, false≢true, and-false}
+use mathlib.Core.Bool.{Bool, true, false, not, _&&_, _||_, and-false}
 use Prim.Native.Nat.{ℕ}
 use Prim.Native.Char.{code}
 use lib.ListN.{length, drop}
 use lib.Dec.{eqb}
-use borrow.Author.Tests.{eq-eqb, ne-eqb, eqb-true, eqb-false}
+use borrow.Author.Tests.{eq-eqb, ne-eqb, eqb-true, eqb-false, not-true}
 use Rattle.scan.specs.Bytes.{every, some, if_then_else_}
 use Rattle.scan.proofs.Bools.{and-left, and-right}
 use Rattle.pattern.specs.Pieces.{Piece, Byte}
@@ -20,10 +20,6 @@ use Rattle.front.specs.Front.{beginning, plainAfter, frontAfter, front, 
 use Rattle.front.specs.declared.Led.{Led}
 
 -- ---- Bool and lists
-
-not-false : (a : Bool) → not a ≡ true → a ≡ false
-not-false true e = absurd (false≢true e)
-not-false false e = refl
 
 and-assoc : (a b c : Bool) → (a && (b && c)) ≡ ((a && b) && c)
 and-assoc true b c = refl
@@ -114,8 +110,8 @@ module _ (keep : List Piece → Bool) (literal : (b : ℕ) (x : List Piece) → 
         go : (t : Bool) → plainAfter slash b ≡ t → ((p : List ℕ) → Behind (eqb b (code "/")) s p f) → Behind slash (b ∷ s) path (if t then b ∷ f else [])
         go false e later = refl
         go true e later =
-            let h : special b ≡ false = not-false (special b) (and-left (ordinary b) (not (slash && eqb b (code "/"))) e) in
-            let k : (slash && eqb b (code "/")) ≡ false = not-false (slash && eqb b (code "/")) (and-right (ordinary b) (not (slash && eqb b (code "/"))) e) in
+            let h : special b ≡ false = not-true (special b) (and-left (ordinary b) (not (slash && eqb b (code "/"))) e) in
+            let k : (slash && eqb b (code "/")) ≡ false = not-true (slash && eqb b (code "/")) (and-right (ordinary b) (not (slash && eqb b (code "/"))) e) in
             ap (λ (xs : List (List Piece)). keptAfter keep slash xs path) (plain b s h) ∙ kept-byte slash b k (F s) path ∙ more path later
 
 -- ---- what a pattern's front leaves of a pattern and a path

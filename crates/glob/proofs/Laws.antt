@@ -10,7 +10,7 @@ use native.Mathlib.Omega.{arith}
 use lib.ListN.{length, getD, take, drop, length-drop, length-map, drop-of-length-le}
 use lib.Seq.{take-all, drop-cons}
 use lib.Dec.{eqb, ltb}
-use borrow.Author.Tests.{eq-eqb, ne-eqb, eqb-true, eqb-false, ltb-true, ltb-false, le-leb, leb-true}
+use borrow.Author.Tests.{eq-eqb, ne-eqb, eqb-true, eqb-false, ltb-true, ltb-false, le-leb, leb-true, not-true}
 use Rattle.scan.specs.Bytes.{every, some, holds, span, if_then_else_}
 use Rattle.pattern.specs.Pieces.{Piece, Byte, One, Star, StarStar, Class}
 use Rattle.pattern.specs.Items.{patternForm, patternNames}
@@ -44,10 +44,6 @@ use Rattle.choices.specs.Choices.{opens}
 use Rattle.choices.proofs.Laws.{opens-none}
 use Rattle.glob.specs.declared.Matched.{Matched}
 use Rattle.glob.specs.Glob.{noMatch, matchedOf, matchedBy, someBelow, matchedAt, matchedBelow, matchedAll, matchedBehind, matchedIn}
-
-not-false : (a : Bool) → not a ≡ true → a ≡ false
-not-false true e = absurd (false≢true e)
-not-false false e = refl
 
 -- ---- one expansion
 
@@ -249,7 +245,7 @@ behind-within vs (b ∷ s) slash w = go (plainAfter slash b) refl (behind-within
         Within (expansions vs (drop (length (if t then b ∷ frontAfter (eqb b (code "/")) s else [])) (b ∷ s)))
     go false e f = w
     go true e f =
-        let p : expansions vs (b ∷ s) ≡ map (λ x. Byte b ∷ x) (expansions vs s) = plain-expansions vs b s (not-false (special b) (and-left (ordinary b) (not (slash && eqb b (code "/"))) e)) in
+        let p : expansions vs (b ∷ s) ≡ map (λ x. Byte b ∷ x) (expansions vs s) = plain-expansions vs b s (not-true (special b) (and-left (ordinary b) (not (slash && eqb b (code "/"))) e)) in
         let v : Within (map (λ x. Byte b ∷ x) (expansions vs s)) = rw (← p) w in
         f (omega (arith, v .0, length-map (expansions vs s) (λ x. Byte b ∷ x)), omega (arith, v .1, longest-more b (expansions vs s)))
 

@@ -12,6 +12,7 @@ use lib.Seq.{drop-cons}
 use borrow.Author.Tests.{eqb-true, eq-eqb, lt-ltb, le-ltb}
 use Rattle.scan.specs.Bytes.{bytes, same, span, if_then_else_}
 use Rattle.scan.proofs.Laws.{same-eq}
+use Rattle.scan.proofs.Bools.{beq-eq}
 use Rattle.modes.specs.Modes.{Row, modes, noRow, modeIn, numberIn, wordIn, kindNumber, fallbackNumber, sameMode, executeNumber, executeWord}
 use Rattle.modes.specs.declared.Kind.{Kind}
 use Rattle.modes.specs.declared.Kind.the-variants as kind
@@ -183,12 +184,6 @@ kind-eq a b e = sym (kind-back a) ∙ ap kindOf e ∙ kind-back b
 
 fallback-eq : (a b : Fallback) → fallbackNumber a ≡ fallbackNumber b → a ≡ b
 fallback-eq a b e = sym (fallback-back a) ∙ ap fallbackOf e ∙ fallback-back b
-
-beq-eq : (a b : Bool) → Bool·beq a b ≡ true → a ≡ b
-beq-eq true true e = refl
-beq-eq true false e = sym e
-beq-eq false true e = e
-beq-eq false false e = refl
 
 pub same-mode : (a b : Mode) → sameMode a b ≡ true → a ≡ b
 unfolding sameMode

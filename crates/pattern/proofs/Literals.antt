@@ -1,24 +1,17 @@
 -- An ordinary byte is a part and an item by itself.
-use mathlib.Core.Path.{_≡_, refl, sym, ap, ap₂, _∙_}
+use mathlib.Core.Path.{_≡_, refl, ap, ap₂, _∙_}
 use mathlib.Core.List.{List, [], _∷_, _++_, map}
-use mathlib.Core.Bool.{Bool, true, false, _||_, false≢true}
+use mathlib.Core.Bool.{Bool, true, false, _||_}
 use Prim.Native.Nat.{ℕ, suc}
 use Prim.Native.Char.{code}
 use lib.ListN.{take, drop}
 use lib.Dec.{eqb}
 use Rattle.scan.specs.Bytes.{run}
+use Rattle.scan.proofs.Bools.{neither-left, neither-right}
 use Rattle.pattern.specs.Pieces.{Part, Byte, Is, starting, part, extra, parts}
 use Rattle.pattern.specs.Items.{Item, Single, item, reach, items}
 use Rattle.pattern.specs.Literals.{special, ordinary}
 use Rattle.pattern.proofs.Laws.{extra-by}
-
-or-left : (a b : Bool) → (a || b) ≡ false → a ≡ false
-or-left false b e = refl
-or-left true b e = e
-
-or-right : (a b : Bool) → (a || b) ≡ false → b ≡ false
-or-right false b e = e
-or-right true b e = absurd (false≢true (sym e))
 
 record Ordinary (b : ℕ) : Type 0 where
   escape : eqb b (code "\\") ≡ false
@@ -40,23 +33,23 @@ ordinary-is b e =
         → eqb b (code "{") ≡ c6 → eqb b (code "}") ≡ c7 → eqb b (code "@") ≡ c8 → eqb b (code "^") ≡ c9
         → (c1 || c2 || c3 || c4 || c5 || c6 || c7 || c8 || c9) ≡ false → Ordinary b
     go c1 c2 c3 c4 c5 c6 c7 c8 c9 e1 e2 e3 e4 e5 e6 e7 e8 e9 h =
-        let h8 = or-left (c1 || c2 || c3 || c4 || c5 || c6 || c7 || c8) c9 h in
-        let h7 = or-left (c1 || c2 || c3 || c4 || c5 || c6 || c7) c8 h8 in
-        let h6 = or-left (c1 || c2 || c3 || c4 || c5 || c6) c7 h7 in
-        let h5 = or-left (c1 || c2 || c3 || c4 || c5) c6 h6 in
-        let h4 = or-left (c1 || c2 || c3 || c4) c5 h5 in
-        let h3 = or-left (c1 || c2 || c3) c4 h4 in
-        let h2 = or-left (c1 || c2) c3 h3 in
+        let h8 = neither-left (c1 || c2 || c3 || c4 || c5 || c6 || c7 || c8) c9 h in
+        let h7 = neither-left (c1 || c2 || c3 || c4 || c5 || c6 || c7) c8 h8 in
+        let h6 = neither-left (c1 || c2 || c3 || c4 || c5 || c6) c7 h7 in
+        let h5 = neither-left (c1 || c2 || c3 || c4 || c5) c6 h6 in
+        let h4 = neither-left (c1 || c2 || c3 || c4) c5 h5 in
+        let h3 = neither-left (c1 || c2 || c3) c4 h4 in
+        let h2 = neither-left (c1 || c2) c3 h3 in
         record {
-          escape = e1 ∙ or-left c1 c2 h2;
-          one = e2 ∙ or-right c1 c2 h2;
-          star = e3 ∙ or-right (c1 || c2) c3 h3;
-          bracket = e4 ∙ or-right (c1 || c2 || c3) c4 h4;
-          closing = e5 ∙ or-right (c1 || c2 || c3 || c4) c5 h5;
-          brace = e6 ∙ or-right (c1 || c2 || c3 || c4 || c5) c6 h6;
-          ending = e7 ∙ or-right (c1 || c2 || c3 || c4 || c5 || c6) c7 h7;
-          at = e8 ∙ or-right (c1 || c2 || c3 || c4 || c5 || c6 || c7) c8 h8;
-          caret = e9 ∙ or-right (c1 || c2 || c3 || c4 || c5 || c6 || c7 || c8) c9 h;
+          escape = e1 ∙ neither-left c1 c2 h2;
+          one = e2 ∙ neither-right c1 c2 h2;
+          star = e3 ∙ neither-right (c1 || c2) c3 h3;
+          bracket = e4 ∙ neither-right (c1 || c2 || c3) c4 h4;
+          closing = e5 ∙ neither-right (c1 || c2 || c3 || c4) c5 h5;
+          brace = e6 ∙ neither-right (c1 || c2 || c3 || c4 || c5) c6 h6;
+          ending = e7 ∙ neither-right (c1 || c2 || c3 || c4 || c5 || c6) c7 h7;
+          at = e8 ∙ neither-right (c1 || c2 || c3 || c4 || c5 || c6 || c7) c8 h8;
+          caret = e9 ∙ neither-right (c1 || c2 || c3 || c4 || c5 || c6 || c7 || c8) c9 h;
         }
 
 module _ (b : ℕ) (s : List ℕ) (e : special b ≡ false) where

@@ -8,7 +8,7 @@ use lib.ListN.{take}
 use lib.Dec.{eqb, ltb}
 use borrow.Author.Tests.{eqb-false, ne-eqb}
 use Rattle.scan.specs.Bytes.{every, some, holds, begins, if_then_else_}
-use Rattle.scan.proofs.Bools.{and-left, and-right}
+use Rattle.scan.proofs.Bools.{and-left, and-right, neither-left, neither-right}
 use Rattle.class.specs.Class.{goodClass}
 use Rattle.pattern.specs.Pieces.{Piece, Byte, Class, Part, Is, Use, Bad, Start, start, upTo, escaped, classPart, starting, part, extra, parts}
 use Rattle.pattern.specs.Items.{Item, Single, Among, before, body, isClosed, afterComma, alternatives, item, reach, items, namesPart, valueNames, namesItem, patternForm, patternNames}
@@ -16,14 +16,6 @@ use Rattle.pattern.specs.Expansions.{Variable, isSet, Choices, ofPart, o
 use Rattle.pattern.specs.Faults.{tooLong, tooMany, rooted, patternFault}
 
 -- ---- without @
-
-or-left : (a b : Bool) → (a || b) ≡ false → a ≡ false
-or-left false b e = refl
-or-left true b e = e
-
-or-right : (a b : Bool) → (a || b) ≡ false → b ≡ false
-or-right false b e = e
-or-right true b e = absurd (false≢true (sym e))
 
 abbrev Without : List ℕ → Type 0
 Without s = holds (code "@") s ≡ false
@@ -33,16 +25,16 @@ unfolding some
 without-take zero s h = refl
 without-take (suc k) [] h = refl
 without-take (suc k) (b ∷ s) h =
-    ap₂ _||_ (or-left (eqb (code "@") b) (holds (code "@") s) h) (without-take k s (or-right (eqb (code "@") b) (holds (code "@") s) h))
+    ap₂ _||_ (neither-left (eqb (code "@") b) (holds (code "@") s) h) (without-take k s (neither-right (eqb (code "@") b) (holds (code "@") s) h))
 
 module _ (b : ℕ) (s : List ℕ) (h : Without (b ∷ s)) where
   without-first : eqb b (code "@") ≡ false
   unfolding some
-  without-first = ne-eqb b (code "@") (λ q. eqb-false (code "@") b (or-left (eqb (code "@") b) (holds (code "@") s) h) (sym q))
+  without-first = ne-eqb b (code "@") (λ q. eqb-false (code "@") b (neither-left (eqb (code "@") b) (holds (code "@") s) h) (sym q))
 
   without-rest : Without s
   unfolding some
-  without-rest = or-right (eqb (code "@") b) (holds (code "@") s) h
+  without-rest = neither-right (eqb (code "@") b) (holds (code "@") s) h
 
 -- ---- no part uses a name
 

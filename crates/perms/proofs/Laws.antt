@@ -10,17 +10,11 @@ use lib.Arith.{lt-one}
 use lib.Pow.{pow-mono}
 use lib.Bits.{bitAnd, bitOr, or-shr, or-mod, and-shr, and-mod, or-lt, and-lt, and-le-l}
 use borrow.Author.Tests.{eqb-true, eq-eqb}
-use Rattle.scan.proofs.Bools.{and-left, and-right}
+use Rattle.scan.proofs.Bools.{and-left, and-right, beq-eq, iff}
 use Rattle.perms.specs.Sets.{has, digit, setOf, perms, unite, without, within}
 use Rattle.perms.specs.declared.Perms.{Perms}
 
 -- Bools
-
-pub beq-eq : (a b : Bool) → Bool·beq a b ≡ true → a ≡ b
-beq-eq true true e = refl
-beq-eq true false e = sym e
-beq-eq false true e = e
-beq-eq false false e = refl
 
 -- one binary digit
 
@@ -202,11 +196,6 @@ module _ (a b : Perms) where
   has-within h =
       eq-eqb (without a b .0) 0
       (sym (set-eq 8 0 (λ k. has (a .0) k && not (has (b .0) k)) (omega arith) (λ k l. has-set 8 (λ _. false) k l ∙ all-there (has (a .0) k) (has (b .0) k) (h k l))))
-
-iff : (p q : Bool) → (p ≡ true → q ≡ true) → (q ≡ true → p ≡ true) → p ≡ q
-iff true q f g = sym (f refl)
-iff false true f g = g refl
-iff false false f g = refl
 
 pub and-within : (a b : Perms) → a .0 < 256 → b .0 < 256 → within a b ≡ eqb (bitAnd (b .0) (a .0)) (a .0)
 and-within a b ha hb =

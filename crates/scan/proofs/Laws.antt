@@ -4,7 +4,7 @@ use mathlib.Core.Path.{_≡_, refl, ap, ap₂, sym, _∙_}
 use mathlib.Core.List.{List, [], _∷_, _++_}
 use mathlib.Core.Bool.{Bool, true, false, _&&_, _||_, or-assoc, false≢true}
 use lib.ListN.{length, getD, take, drop, drop-of-length-le, length-drop, length-take}
-use lib.Seq.{drop-cons, take-nil, drop-drop, take-take}
+use lib.Seq.{drop-cons, take-all, take-nil, drop-drop, take-take}
 use lib.Dec.{eqb, ltb, eqb·zero-suc, eqb·suc-suc}
 use native.Mathlib.Nat.{zero-add, suc-add, not-suc-le-zero, le-of-suc-le-suc}
 use native.Mathlib.Numerals.{add-one}
@@ -182,3 +182,11 @@ span-span text a e i j h =
     (ap (take (j - i)) (drop-take i (e - a) (drop a text))
     ∙ take-take (j - i) (e - a - i) (drop i (drop a text)) (omega arith)
     ∙ ap (take (j - i)) (drop-drop i a text))
+
+-- what stands from a place on
+pub span-rest : (s : List ℕ) (k : ℕ) → span s k (length s) ≡ drop k s
+span-rest s k = take-all (length s - k) (drop k s) (omega (arith, length-drop k s))
+
+pub no-length : {A : Type 0} (l : List A) → length l ≡ 0 → l ≡ []
+no-length [] e = refl
+no-length (x ∷ l) e = absurd (omega arith)

@@ -7,8 +7,8 @@ use Prim.Native.Char.{code}
 use native.Mathlib.Omega.{arith}
 use native.Mathlib.Nat.{le-of-suc-le-suc, not-suc-le-zero, sub-zero}
 use native.Mathlib.Numerals.{add-one}
-use lib.ListN.{length, getD, take, drop, length-drop, drop-of-length-le}
-use lib.Seq.{drop-cons, take-all}
+use lib.ListN.{length, getD, take, drop, drop-of-length-le}
+use lib.Seq.{drop-cons}
 use lib.Pow.{pow-mono}
 use lib.Dec.{eqb}
 use Rattle.scan.specs.Bytes.{span, if_then_else_}
@@ -69,6 +69,3 @@ front-take slash (b ∷ s) = go (plainAfter slash b) (front-take (eqb b (code "/
 
 pub span-front : (s : List ℕ) → span s 0 (length (front s)) ≡ front s
 span-front s = ap (λ (n : ℕ). take n s) (sub-zero (length (front s))) ∙ front-take false s
-
-pub span-rest : (s : List ℕ) (k : ℕ) → span s k (length s) ≡ drop k s
-span-rest s k = take-all (length s - k) (drop k s) (omega (arith, length-drop k s))

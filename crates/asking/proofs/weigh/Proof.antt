@@ -1,12 +1,12 @@
 use borrow.Author.Needs.{needs}
 use denote.Ref.{now}
 use mathlib.Core.Path.{sym, _∙_}
-use mathlib.Core.Bool.{not}
+use borrow.Author.Tests.{not-true, not-false}
 use Rattle.pattern.specs.Table.{env}
 use Rattle.findings.specs.Findings.{Access}
 use Rattle.findings.specs.Weighed.{seenFindings}
 use Rattle.entries.specs.Entries.{entryOf}
-use Rattle.asking.proofs.Laws.{entry-not-owner, entry-bad, entry-unmatched, entry-denied, entry-allowed, not-true, not-false}
+use Rattle.asking.proofs.Laws.{entry-not-owner, entry-bad, entry-unmatched, entry-denied, entry-allowed}
 use Rattle.asking.proofs.weigh.Statement.{statement}
 use Rattle.asking.proofs.weigh.Tie as tie
 

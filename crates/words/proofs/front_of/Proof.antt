@@ -4,9 +4,10 @@ use Prim.Native.Nat.{ℕ}
 use denote.Ref.{now}
 use lib.ListN.{drop}
 use Rattle.scan.specs.Bytes.{span}
+use Rattle.scan.proofs.Laws.{span-rest}
 use Rattle.front.specs.Front.{front}
 use Rattle.words.specs.Words.{masked}
-use Rattle.words.proofs.Turns.{span-front, span-rest}
+use Rattle.words.proofs.Turns.{span-front}
 use Rattle.words.proofs.front_of.Statement.{statement}
 use Rattle.words.proofs.front_of.Tie as tie
 

@@ -3,7 +3,7 @@ use mathlib.Core.Path.{_≡_, _∙_}
 use denote.Ref.{now}
 use lib.ListN.{drop}
 use Rattle.words.specs.Words.{wordsOf}
-use Rattle.words.proofs.Turns.{span-rest}
+use Rattle.scan.proofs.Laws.{span-rest}
 use Rattle.words.proofs.words_of.Statement.{statement}
 use Rattle.words.proofs.words_of.Tie as tie
 
