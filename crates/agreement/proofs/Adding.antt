@@ -17,7 +17,7 @@ use Rattle.findings.specs.Findings.{Access, findings}
 use Rattle.answer.specs.Answers.{answerFrom, refusal}
 use Rattle.answer.specs.declared.Answer.{Answer}
 use Rattle.entries.specs.Entries.{Entry, Policy}
-use Rattle.asking.specs.Asking.{answerAmong, askedOf, counts, good, rulesFor}
+use Rattle.asking.specs.Asking.{answerAmong, askedOf, byName, counts, good, rulesFor}
 
 -- ---- an element that fails the test
 
@@ -44,22 +44,25 @@ module _ (vs : List Variable) (path : List ℕ) (i : ℕ) (es fs : List Entry) (
 
 module _ (vs : List Variable) (q : Access) (asked : ℕ) (n : List ℕ) (es fs : List Entry) (same-rules : (i : ℕ) → rulesFor vs (q .path) i es ≡ rulesFor vs (q .path) i fs) where
   among-same : (i : ℕ) (ms : List (List ℕ)) → answerAmong vs q asked n es i ms ≡ answerAmong vs q asked n fs i ms
-  unfolding answerAmong
+  unfolding answerAmong byName
   among-same i [] = refl
   among-same i (m ∷ ms) =
       ap₂ (λ (a b : Answer). elim (same m n) as (λ _. Answer) [ true ↦ a | false ↦ b ]) (ap (λ (rs : List Rule). answerFrom (findings vs q rs) asked) (same-rules i)) (among-same (i + 1) ms)
 
--- refusals 1, 2 and 3 come first
-abbrev pub checked : (text path : List ℕ) → (asked : ℕ) → Answer → Answer
-checked text path asked a =
-    elim (ltb 65535 (length text)) as (λ _. Answer) [
+-- refusals 1, 2 and 3 come first, where they are given
+abbrev pub guarded : (long bad none : Bool) → Answer → Answer
+guarded a b c x =
+    elim a as (λ _. Answer) [
       | true ↦ refusal (nowhere 1)
       | false ↦
-          elim (badPath path) as (λ _. Answer) [
+          elim b as (λ _. Answer) [
             | true ↦ refusal (nowhere 2)
-            | false ↦ elim (badAsked asked) as (λ _. Answer) [ true ↦ refusal (nowhere 3) | false ↦ a ]
+            | false ↦ elim c as (λ _. Answer) [ true ↦ refusal (nowhere 3) | false ↦ x ]
           ]
     ]
+
+abbrev pub checked : (text path : List ℕ) → (asked : ℕ) → Answer → Answer
+checked text path asked = guarded (ltb 65535 (length text)) (badPath path) (badAsked asked)
 
 -- a policy with these entries
 abbrev pub holding : Policy → List Entry → Policy

@@ -24,7 +24,7 @@ use Rattle.answer.specs.Answers.{answerFrom}
 use Rattle.answer.specs.declared.Answer.{Answer}
 use Rattle.decide.specs.Decide.{answerBy, answerIn, answerOf}
 use Rattle.entries.specs.Entries.{Entry, Policy, Short, Rejected, Accepted, entriesFrom, entry, policyOf, readOf, toldOf}
-use Rattle.asking.specs.Asking.{answerAmong, askedOf, counts, good, rulesFor}
+use Rattle.asking.specs.Asking.{answerAmong, askedOf, byName, counts, good, rulesFor}
 use Rattle.agreement.proofs.Room.{room-enough, room-few, room-more, room-short}
 use Rattle.agreement.proofs.Good.{file-good}
 use Rattle.agreement.proofs.Adding.{checked}
@@ -32,11 +32,11 @@ use Rattle.agreement.proofs.Adding.{checked}
 -- ---- rules whose front is not the path's
 
 -- the words of the rule's front are not the path's
-abbrev outRule : (path : List ℕ) → Rule → Bool
+abbrev pub outRule : (path : List ℕ) → Rule → Bool
 outRule path r = isOut (wordsOf path) (frontOf (r .pattern))
 
 module _ (vs : List Variable) (q : Access) where
-  out-not-applies : (r : Rule) → outRule (q .path) r ≡ true → applies vs q r ≡ false
+  pub out-not-applies : (r : Rule) → outRule (q .path) r ≡ true → applies vs q r ≡ false
   unfolding applies
   out-not-applies r e = ap (λ (b : Bool). (not (r .owner) || q .owner) && b) (out-unmatched (r .pattern) (q .path) e vs) ∙ and-false (not (r .owner) || q .owner)
 
@@ -114,7 +114,7 @@ module _ (vs : List Variable) (q : Access) (asked : ℕ) (n : List ℕ) where
 
   among-in : (i : ℕ) (before : List Entry) (ps : List Profile) → Past vs (q .path) i before → every (λ (p : Profile). every (good vs) (p .rules)) ps ≡ true
       → answerAmong vs q asked n (before ++ entriesFrom i ps) i (map (λ (p : Profile). p .name) ps) ≡ answerIn vs q asked n ps
-  unfolding answerAmong answerIn every
+  unfolding answerAmong byName answerIn every
   among-in i before [] h g = refl
   among-in i before (p ∷ ps) h g =
       ap₂ (λ (a b : Answer). elim (same (p .name) n) as (λ _. Answer) [ true ↦ a | false ↦ b ])

@@ -4,3 +4,4 @@ pub mod Adding
 pub mod Agreement
 pub mod Filled
 pub mod Orders
+pub mod Matching

@@ -12,6 +12,7 @@ use Rattle.scan.specs.Bytes.{same, some, span, if_then_else_}
 use Rattle.scan.proofs.Bools.{and-left}
 use Rattle.codes.proofs.Laws.{take-least}
 use Rattle.text.specs.Reading.{nowhere}
+use Rattle.perms.specs.Sets.{perms}
 use Rattle.perms.specs.declared.Perms.{Perms}
 use Rattle.request.specs.Requests.{badAsked, badPath}
 use Rattle.request.proofs.Laws.{path-short}
@@ -30,7 +31,7 @@ use Rattle.rule_tail.specs.Tails.{takesTarget}
 use Rattle.rule.specs.Rules.{Rule}
 use Rattle.words.specs.Words.{isOut, wordsOf}
 use Rattle.words.specs.declared.Words.{Words}
-use Rattle.findings.specs.Findings.{Access, bits, findings, moves}
+use Rattle.findings.specs.Findings.{Access, applies, bits, findings, moves}
 use Rattle.findings.specs.Weighed.{Weighed, allowing, denying, nothing, weighed}
 use Rattle.findings.proofs.Joining.{findings-append}
 use Rattle.answer.specs.Answers.{answerFrom, refusal}
@@ -39,11 +40,11 @@ use Rattle.answer.specs.declared.Answer.{Answer}
 use Rattle.answer.proofs.Laws.{answer-gathered}
 use Rattle.weigh.specs.Weigh.{Fits, weighedBy}
 use Rattle.weigh.proofs.Sound.{Sound}
-use Rattle.weigh.proofs.Laws.{weigh-one, weigh-not-owner, weigh-unmatched, weigh-denied, weigh-allowed}
+use Rattle.weigh.proofs.Laws.{fitting, matched-fit, owner-turned, weigh-one}
 use Rattle.entries.specs.Entries.{Entry, entryOf, namesFrom, policyIn}
 use Rattle.entries.specs.declared.Record.{Record}
-use Rattle.asking.specs.Asking.{answerAmong, askedOf, counts, good, goodEnd, goodTarget, rulesFor}
-use Rattle.asking.specs.Steps.{concluded, gatheredIn, numberFrom, outOf, queryBy, queryOf, refusedFor, refusedQuery, weighedEntry}
+use Rattle.asking.specs.Asking.{answerAmong, askedOf, byName, counts, good, goodEnd, goodTarget, matchBy, matchOf, rulesFor}
+use Rattle.asking.specs.Steps.{concluded, gatheredIn, matchIf, matchedRule, numberFrom, outOf, queryBy, queryOf, refusedFor, refusedQuery, weighedEntry}
 use Rattle.asking.specs.declared.Query.{Query}
 
 -- ---- one record more
@@ -133,18 +134,17 @@ module _ (text : List ℕ) (vs : List Variable) (q : Access) (fits : Fits text (
 -- ---- the answer
 
 -- by the number of the name
-abbrev numbered : List Variable → Access → (asked : ℕ) → List Entry → ℕ → Answer
-numbered vs q asked es zero = refusal (nowhere 11)
-numbered vs q asked es (suc j) = answerFrom (findings vs q (rulesFor vs (q .path) j es)) asked
+abbrev pub numbered : {A : Type 0} → A → (ℕ → A) → ℕ → A
+numbered none f zero = none
+numbered none f (suc j) = f j
 
-among-number : (vs : List Variable) (q : Access) (asked : ℕ) (n : List ℕ) (es : List Entry) (i : ℕ) (names : List (List ℕ)) →
-    numbered vs q asked es (numberFrom n i names) ≡ answerAmong vs q asked n es i names
-unfolding numberFrom answerAmong
-among-number vs q asked n es i [] = refl
-among-number vs q asked n es i (m ∷ ms) = go (same m n) (among-number vs q asked n es (i + 1) ms)
+pub name-number : {A : Type 0} (none : A) (f : ℕ → A) (n : List ℕ) (i : ℕ) (names : List (List ℕ)) → numbered none f (numberFrom n i names) ≡ byName none f n i names
+unfolding byName
+name-number none f n i [] = refl
+name-number {A} none f n i (m ∷ ms) = go (same m n) (name-number none f n (i + 1) ms)
   where
-    go : (b : Bool) → numbered vs q asked es (numberFrom n (i + 1) ms) ≡ answerAmong vs q asked n es (i + 1) ms → numbered vs q asked es (elim b as (λ _. ℕ) [ true ↦ suc i | false ↦ numberFrom n (i + 1) ms ])
-        ≡ elim b as (λ _. Answer) [ true ↦ answerFrom (findings vs q (rulesFor vs (q .path) i es)) asked | false ↦ answerAmong vs q asked n es (i + 1) ms ]
+    go : (b : Bool) → numbered none f (numberFrom n (i + 1) ms) ≡ byName none f n (i + 1) ms →
+        numbered none f (elim b as (λ _. ℕ) [ true ↦ suc i | false ↦ numberFrom n (i + 1) ms ]) ≡ elim b as (λ _. A) [ true ↦ f i | false ↦ byName none f n (i + 1) ms ]
     go true h = refl
     go false h = h
 
@@ -161,7 +161,7 @@ module _ (text head : List ℕ) (table : List Record) (n path : List ℕ) (asked
 
   by-number : Fits text path → (k : ℕ) →
       walked (queryBy k head (length table) path asked owner)
-      ≡ numbered (env text head (getD head 1248 0)) q (asked .0) (map (entryOf text) (take (getD head 1250 0) table)) k
+      ≡ numbered (refusal (nowhere 11)) (λ j. answerFrom (findings (env text head (getD head 1248 0)) q (rulesFor (env text head (getD head 1248 0)) path j (map (entryOf text) (take (getD head 1250 0) table)))) (asked .0)) k
   unfolding walked concluded
   by-number fits zero = refl
   by-number fits (suc j) =
@@ -172,7 +172,7 @@ module _ (text head : List ℕ) (table : List Record) (n path : List ℕ) (asked
       ∙ answer-gathered (findings vs q (rulesFor vs path j es)) (asked .0)
 
   pub asking-walked : walked (queryOf text head (length table) n path asked owner) ≡ askedOf text (policyIn text head table) n path (asked .0) owner
-  unfolding queryOf refusedFor askedOf policyIn
+  unfolding queryOf refusedFor askedOf policyIn answerAmong
   asking-walked = go (ltb 65535 (length text)) refl (badPath path) refl (badAsked (asked .0)) refl
     where
       go : (a : Bool) → ltb 65535 (length text) ≡ a → (b : Bool) → badPath path ≡ b → (c : Bool) → badAsked (asked .0) ≡ c →
@@ -195,39 +195,122 @@ module _ (text head : List ℕ) (table : List Record) (n path : List ℕ) (asked
       go false x false y true z = unfold walked concluded in refl
       go false x false y false z =
           by-number (record { short = ltb-false 65535 (length text) x; fits = le-leb (length path) 4095 (path-short path y) }) (numberFrom n 0 names)
-          ∙ among-number (env text head (getD head 1248 0)) q (asked .0) n (map (entryOf text) (take (getD head 1250 0) table)) 0 names
+          ∙ name-number (refusal (nowhere 11)) (λ j. answerFrom (findings (env text head (getD head 1248 0)) q (rulesFor (env text head (getD head 1248 0)) path j (map (entryOf text) (take (getD head 1250 0) table)))) (asked .0)) n 0 names
 
--- ---- by what the code asks
+-- ---- how one record matches
 
-module _ (text : List ℕ) (vs : List Variable) (q : Access) (e : Entry) (w : Weighed) where
+-- by what the code asks
+module _ (text : List ℕ) (vs : List Variable) (q : Access) (r : Rule) where
+  pub match-not-owner : (r .owner && not (q .owner)) ≡ true → noMatch ≡ matchedRule text vs q r
+  unfolding matchedRule
+  match-not-owner o = rw (owner-turned (r .owner) (q .owner), o, and-false (goodEnd r))
+
+  pub match-bad : goodEnd r ≡ false → noMatch ≡ matchedRule text vs q r
+  unfolding matchedRule
+  match-bad g = rw g
+
+  module _ {x : Matched} (m : x ≡ matchedOf text vs (r .pattern) (q .path)) where
+    pub match-none : x .some ≡ false → noMatch ≡ matchedRule text vs q r
+    unfolding matchedRule
+    match-none s = rw (← m, s, and-false (goodEnd r && (not (r .owner) || q .owner)))
+
+    pub match-some : (r .owner && not (q .owner)) ≡ false → x .some ≡ true → goodEnd r ≡ true → x ≡ matchedRule text vs q r
+    unfolding matchedRule
+    match-some o s g = rw (← m, owner-turned (r .owner) (q .owner), o, g, s)
+
+module _ (text : List ℕ) (vs : List Variable) (q : Access) (e : Entry) where
   abbrev matched : Matched
   matched = matchedOf text vs (e .rule .pattern) (q .path)
 
-  -- where the end is bad nothing is added
-  either-end : (v : Weighed) → (goodEnd (e .rule) ≡ true → v ≡ weighedBy (q .owner) matched (e .rule) w) → (goodEnd (e .rule) ≡ false → v ≡ w) → v ≡ weighedEntry text vs q e w
-  unfolding weighedEntry
-  either-end v f g = go (goodEnd (e .rule)) refl
+  -- what it adds
+  adds : (w : Weighed) → (if matchedRule text vs q (e .rule) .some then (if e .rule .deny then denying (e .rule) w else allowing (matchedRule text vs q (e .rule) .exact) (e .rule) w) else w) ≡ weighedEntry text vs q e w
+  unfolding matchedRule weighedEntry weighedBy
+  adds w = go (goodEnd (e .rule)) (not (e .rule .owner) || q .owner) (matched .some)
     where
-      go : (b : Bool) → goodEnd (e .rule) ≡ b → v ≡ (if b then weighedBy (q .owner) matched (e .rule) w else w)
-      go true h = f h
-      go false h = g h
+      go : (g o s : Bool) →
+          (if (if (g && o) && s then (record { some = true; exact = matched .exact }) else noMatch) .some
+          then (if e .rule .deny then denying (e .rule) w else allowing ((if (g && o) && s then (record { some = true; exact = matched .exact }) else noMatch) .exact) (e .rule) w) else w)
+          ≡ (if g then (if o && s then (if e .rule .deny then denying (e .rule) w else allowing (matched .exact) (e .rule) w) else w) else w)
+      go true true true = refl
+      go true true false = refl
+      go true false s = refl
+      go false o s = refl
 
-  pub entry-not-owner : (e .rule .owner && not (q .owner)) ≡ true → w ≡ weighedEntry text vs q e w
-  entry-not-owner o = either-end w (λ h. weigh-not-owner (q .owner) (e .rule) w matched o) (λ h. refl)
-
-  pub entry-bad : goodEnd (e .rule) ≡ false → w ≡ weighedEntry text vs q e w
-  entry-bad b = either-end w (λ h. absurd (false≢true (sym b ∙ h))) (λ h. refl)
-
-  module _ {x : Matched} (m : x ≡ matched) (o : (e .rule .owner && not (q .owner)) ≡ false) where
+  module _ {x : Matched} (m : x ≡ matchedRule text vs q (e .rule)) (w : Weighed) where
     pub entry-unmatched : x .some ≡ false → w ≡ weighedEntry text vs q e w
-    entry-unmatched s = either-end w (λ h. weigh-unmatched (q .owner) (e .rule) w m o s) (λ h. refl)
+    entry-unmatched s = rw (← adds w, ← m, s)
 
-    module _ (s : x .some ≡ true) (g : goodEnd (e .rule) ≡ true) where
-      pub entry-denied : e .rule .deny ≡ true → denying (e .rule) w ≡ weighedEntry text vs q e w
-      entry-denied d = either-end (denying (e .rule) w) (λ h. weigh-denied (q .owner) (e .rule) w m o s d) (λ h. absurd (false≢true (sym h ∙ g)))
+    pub entry-denied : x .some ≡ true → e .rule .deny ≡ true → denying (e .rule) w ≡ weighedEntry text vs q e w
+    entry-denied s d = rw (← adds w, ← m, s, d)
 
-      pub entry-allowed : e .rule .deny ≡ false → allowing (x .exact) (e .rule) w ≡ weighedEntry text vs q e w
-      entry-allowed d = either-end (allowing (x .exact) (e .rule) w) (λ h. weigh-allowed (q .owner) (e .rule) w m o s d) (λ h. absurd (false≢true (sym h ∙ g)))
+    pub entry-allowed : x .some ≡ true → e .rule .deny ≡ false → allowing (x .exact) (e .rule) w ≡ weighedEntry text vs q e w
+    entry-allowed s d = rw (← adds w, ← m, s, d)
+
+  -- where the request is not refused, it is how the record of that profile matches
+  match-in : Fits text (q .path) → (i : ℕ) → (if outOf (wordsOf (q .path)) i e then noMatch else matchedRule text vs q (e .rule)) ≡ matchBy vs q i e
+  unfolding outOf matchedRule matchBy counts good applies
+  match-in fits i = go (eqb (e .profile) i) (isOut (wordsOf (q .path)) (e .front)) (goodEnd (e .rule)) (eqb (patternFault vs (e .rule .pattern)) 0) refl
+    where
+      go : (p o g z : Bool) → eqb (patternFault vs (e .rule .pattern)) 0 ≡ z →
+          (if not p || o then noMatch else matchIf (g && (not (e .rule .owner) || q .owner)) matched)
+          ≡ (if (p && not o && (z && g)) && ((not (e .rule .owner) || q .owner) && matchesSome vs (e .rule .pattern) (q .path))
+          then record { some = true; exact = matchesExactly vs (e .rule .pattern) (q .path) } else noMatch)
+      go false o g z h = refl
+      go true true g z h = refl
+      go true false false z h = rw (and-false z)
+      go true false true false h = rw (faulty text vs q fits i (e .rule .pattern) h, and-false (not (e .rule .owner) || q .owner))
+      go true false true true h = rw (matched-fit text (q .path) vs (e .rule .pattern) (fitting fits) (eqb-true (patternFault vs (e .rule .pattern)) 0 h))
+
+-- by what is known of the request
+unfoldable matchKnown : (text head path : List ℕ) → Query → Entry → Matched
+matchKnown text head path k e =
+    if not (eqb (k .refused) 0) || outOf (k .words) (k .profile) e then noMatch
+    else matchedRule text (env text head (k .variables)) (record { path = path; owner = k .owner }) (e .rule)
+
+module _ (text head n path : List ℕ) (owner : Bool) (e : Entry) where
+  abbrev access : Access
+  access = record { path = path; owner = owner }
+
+  abbrev variables : List Variable
+  variables = env text head (getD head 1248 0)
+
+  abbrev byNumber : ℕ → Matched
+  byNumber i = matchBy variables access i e
+
+  match-number : Fits text path → (k : ℕ) → matchKnown text head path (queryBy k head 0 path (perms 1) owner) e ≡ numbered noMatch byNumber k
+  unfolding matchKnown
+  match-number fits zero = refl
+  match-number fits (suc j) = match-in text variables access e fits j
+
+  match-asked : matchKnown text head path (queryOf text head 0 n path (perms 1) owner) e ≡ matchOf text (policyIn text head []) n path owner e
+  unfolding queryOf refusedFor matchOf policyIn
+  match-asked = go (ltb 65535 (length text)) refl (badPath path) refl
+    where
+      go : (a : Bool) → ltb 65535 (length text) ≡ a → (b : Bool) → badPath path ≡ b →
+          matchKnown text head path (if eqb (if a then 1 else if b then 2 else 0) 0 then queryBy (numberFrom n 0 (namesFrom text (drop 1120 head) (min 32 (getD head 1249 0)) 0)) head 0 path (perms 1) owner
+          else refusedQuery (if a then 1 else if b then 2 else 0) path (perms 1) owner) e
+          ≡ (if a then noMatch else if b then noMatch else byName noMatch byNumber n 0 (namesFrom text (drop 1120 head) (min 32 (getD head 1249 0)) 0))
+      go true x b y = unfold matchKnown in refl
+      go false x true y = unfold matchKnown in refl
+      go false x false y =
+          match-number (record { short = ltb-false 65535 (length text) x; fits = le-leb (length path) 4095 (path-short path y) }) (numberFrom n 0 (namesFrom text (drop 1120 head) (min 32 (getD head 1249 0)) 0))
+          ∙ name-number noMatch byNumber n 0 (namesFrom text (drop 1120 head) (min 32 (getD head 1249 0)) 0)
+
+  module _ {k : Query} (known : k ≡ queryOf text head 0 n path (perms 1) owner) {o : Bool} (out : o ≡ outOf (k .words) (k .profile) e) where
+    match-query : (if not (eqb (k .refused) 0) || o then noMatch else matchedRule text (env text head (k .variables)) (record { path = path; owner = k .owner }) (e .rule))
+        ≡ matchOf text (policyIn text head []) n path owner e
+    unfolding matchKnown
+    match-query =
+        ap (λ (b : Bool). if not (eqb (k .refused) 0) || b then noMatch else matchedRule text (env text head (k .variables)) (record { path = path; owner = k .owner }) (e .rule)) out
+        ∙ ap (λ (j : Query). matchKnown text head path j e) known
+        ∙ match-asked
+
+    pub match-out : (not (eqb (k .refused) 0) || o) ≡ true → noMatch ≡ matchOf text (policyIn text head []) n path owner e
+    match-out h = rw (← match-query, h)
+
+    pub match-here : (not (eqb (k .refused) 0) || o) ≡ false →
+        matchedRule text (env text head (k .variables)) (record { path = path; owner = k .owner }) (e .rule) ≡ matchOf text (policyIn text head []) n path owner e
+    match-here h = rw (← match-query, h)
 
 -- ---- what is known before the walk
 
@@ -257,15 +340,15 @@ module _ (text head : List ℕ) (records : ℕ) (n path : List ℕ) (asked : Per
 
 module _ (n text t : List ℕ) (i : ℕ) where
   pub number-here : {k m : ℕ} → k ≡ suc m → same (bytesAt text t (4 * i)) n ≡ true → numberFrom n i (namesFrom text t k i) ≡ i + 1
-  unfolding numberFrom namesFrom
-  number-here k e = rw (k, e, numberFrom) (omega arith)
+  unfolding byName namesFrom
+  number-here k e = rw (k, e, byName) (omega arith)
 
   pub number-later : {k m : ℕ} → k ≡ suc m → same (bytesAt text t (4 * i)) n ≡ false → numberFrom n i (namesFrom text t k i) ≡ numberFrom n (i + 1) (namesFrom text t m (i + 1))
-  unfolding numberFrom namesFrom
-  number-later k e = rw (k, e, numberFrom)
+  unfolding byName namesFrom
+  number-later k e = rw (k, e, byName)
 
   pub number-none : {k : ℕ} → k ≡ 0 → numberFrom n i (namesFrom text t k i) ≡ 0
-  unfolding numberFrom namesFrom
+  unfolding byName namesFrom
   number-none k = rw k
 
 -- the name that the code compares

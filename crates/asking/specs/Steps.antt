@@ -1,17 +1,19 @@
 -- Asking as the code does it: what is known before the walk, and what a record adds.
-use Prim.Native.Nat.{ℕ, zero, suc, _+_, min}
+use Prim.Native.Nat.{ℕ, zero, suc, min}
 use mathlib.Core.List.{List, [], _∷_}
-use mathlib.Core.Bool.{Bool, true, false, not, _||_}
+use mathlib.Core.Bool.{Bool, true, not, _||_, _&&_}
 use lib.ListN.{length, getD, drop}
 use lib.Dec.{eqb, ltb}
-use Rattle.scan.specs.Bytes.{same, if_then_else_}
+use Rattle.scan.specs.Bytes.{if_then_else_}
 use Rattle.text.specs.Reading.{nowhere}
 use Rattle.perms.specs.declared.Perms.{Perms}
 use Rattle.request.specs.Requests.{badAsked, badPath}
 use Rattle.pattern.specs.Expansions.{Variable}
+use Rattle.rule.specs.Rules.{Rule}
 use Rattle.words.specs.Words.{isOut, wordsOf}
 use Rattle.words.specs.declared.Words.{Words}
-use Rattle.glob.specs.Glob.{matchedOf}
+use Rattle.glob.specs.Glob.{matchedOf, noMatch}
+use Rattle.glob.specs.declared.Matched.{Matched}
 use Rattle.weigh.specs.Weigh.{weighedBy}
 use Rattle.findings.specs.Findings.{Access}
 use Rattle.findings.specs.Weighed.{Weighed}
@@ -19,13 +21,12 @@ use Rattle.answer.specs.Answers.{refusal}
 use Rattle.answer.specs.Parts.{answerTo}
 use Rattle.answer.specs.declared.Answer.{Answer}
 use Rattle.entries.specs.Entries.{Entry, namesFrom}
-use Rattle.asking.specs.Asking.{goodEnd}
+use Rattle.asking.specs.Asking.{byName, goodEnd}
 use Rattle.asking.specs.declared.Query.{Query}
 
 -- the number of the first of these names that is n, counted from 1 and i; 0 where there is none
-unfoldable pub numberFrom : (n : List ℕ) → (i : ℕ) → List (List ℕ) → ℕ
-numberFrom n i [] = 0
-numberFrom n i (m ∷ ms) = elim (same m n) [ true ↦ suc i | false ↦ numberFrom n (i + 1) ms ]
+abbrev pub numberFrom : (n : List ℕ) → (i : ℕ) → List (List ℕ) → ℕ
+numberFrom = byName zero suc
 
 -- 1, 2 and 3, or 0
 unfoldable pub refusedFor : (text path : List ℕ) → (asked : ℕ) → ℕ
@@ -58,6 +59,14 @@ queryOf text head records n path asked owner =
 -- a record that adds nothing: another profile's, or one whose front's words are not the path's
 unfoldable pub outOf : (words : Words) → (i : ℕ) → Entry → Bool
 outOf words i e = not (eqb (e .profile) i) || isOut words (e .front)
+
+-- a match, where a condition holds
+abbrev pub matchIf : Bool → Matched → Matched
+matchIf b m = if b && m .some then record { some = true; exact = m .exact } else noMatch
+
+-- how the rule of a record matches that is not out
+unfoldable pub matchedRule : (text : List ℕ) → List Variable → Access → Rule → Matched
+matchedRule text vs q r = matchIf (goodEnd r && (not (r .owner) || q .owner)) (matchedOf text vs (r .pattern) (q .path))
 
 -- what another record adds
 unfoldable pub weighedEntry : (text : List ℕ) → List Variable → Access → Entry → Weighed → Weighed

@@ -10,6 +10,7 @@ use entries::VARIABLE_COUNT;
 use findings::Findings;
 use findings::allow;
 use findings::deny;
+use glob::Matched;
 use glob::match_pattern;
 use modes::Transition;
 use names::NAME_BYTES;
@@ -28,16 +29,16 @@ use variables::cell;
 use words::Words;
 use words::words_of;
 ghost use mathlib.Core.Path.{_≡_};
-ghost use mathlib.Core.List.{List};
+ghost use mathlib.Core.List.{List, []};
 ghost use Prim.Native.Nat.{ℕ, min};
 ghost use lib.ListN.{getD, drop};
 ghost use Rattle.pattern.specs.Table.{env};
 ghost use Rattle.rule.specs.Places.{ruleOf};
 ghost use Rattle.text.specs.Places.{spanOf};
 ghost use Rattle.findings.specs.Weighed.{seenFindings};
-ghost use Rattle.entries.specs.Entries.{entryOf, namesFrom};
-ghost use Rattle.asking.specs.Asking.{goodEnd, goodTarget};
-ghost use Rattle.asking.specs.Steps.{concluded, numberFrom, outOf, queryOf, refusedFor, weighedEntry};
+ghost use Rattle.entries.specs.Entries.{entryOf, namesFrom, policyIn};
+ghost use Rattle.asking.specs.Asking.{goodEnd, goodTarget, matchOf};
+ghost use Rattle.asking.specs.Steps.{concluded, matchedRule, numberFrom, outOf, queryOf, refusedFor, weighedEntry};
 
 // The numbers of the refusals that are not the text's.
 const LONG_TEXT: u8 = 1;
@@ -171,6 +172,58 @@ fn is_good_end(text: &[u8], rule: Rule) -> bool
     (perms.0 < 128) & is_good_target(text, transition, target)
 }
 
+// How the rule of a record that is not out matches.
+fn matched(
+    text: &[u8],
+    head: &[usize],
+    path: &[u8],
+    variables: usize,
+    owner: bool,
+    rule: Rule,
+) -> Matched
+    ensures { λ r. ⌜ r
+        ≡ matchedRule (now (text .entry)) (env (now (text .entry)) (now (head .entry)) variables) (record { path = now (path .entry); owner = owner }) (ruleOf (now (text .entry)) rule) ⌝ }
+{
+    let none = Matched {
+        some: false,
+        exact: false,
+    };
+    if rule.owner & !owner {
+        return none;
+    }
+    let pattern = rule.pattern;
+    let m = match_pattern(text, head, variables, pattern.from.0, pattern.end.0, path);
+    if !m.some {
+        return none;
+    }
+    if !is_good_end(text, rule) {
+        return none;
+    }
+    m
+}
+
+// How a record matches a request, whatever is asked for.
+pub fn match_record(
+    text: &[u8],
+    head: &[usize],
+    name: &[u8],
+    path: &[u8],
+    owner: bool,
+    entry: Record,
+) -> Matched
+    ensures { λ r. ⌜ r ≡ matchOf (now (text .entry)) (policyIn (now (text .entry)) (now (head .entry)) []) (now (name .entry)) (now (path .entry)) owner (entryOf (now (text .entry)) entry) ⌝ }
+{
+    let query = begin(text, head, 0, name, path, Perms::READ, owner);
+    if (query.refused != 0) | is_out(query, entry) {
+        return Matched {
+            some: false,
+            exact: false,
+        };
+    }
+    let rule = entry.rule;
+    matched(text, head, path, query.variables, query.owner, rule)
+}
+
 // The findings with a record more.
 pub fn weigh(
     text: &[u8],
@@ -184,22 +237,8 @@ pub fn weigh(
         ≡ weighedEntry (now (text .entry)) (env (now (text .entry)) (now (head .entry)) (query .variables)) (record { path = now (path .entry); owner = query .owner }) (entryOf (now (text .entry)) entry) (seenFindings (now (text .entry)) found) ⌝ }
 {
     let rule = entry.rule;
-    if rule.owner & !query.owner {
-        return found;
-    }
-    let pattern = rule.pattern;
-    let m = match_pattern(
-        text,
-        head,
-        query.variables,
-        pattern.from.0,
-        pattern.end.0,
-        path,
-    );
+    let m = matched(text, head, path, query.variables, query.owner, rule);
     if !m.some {
-        return found;
-    }
-    if !is_good_end(text, rule) {
         return found;
     }
     if rule.deny {

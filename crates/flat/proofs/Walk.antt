@@ -1,22 +1,25 @@
 -- Asking record by record from memory: what is still to come from a place on makes the whole answer.
 use Prim.Native.Nat.{ℕ, zero, suc, _+_, _*_, _-_, _≤_, _<_, min}
 use mathlib.Core.Path.{_≡_, refl, sym, ap, ap₂, _∙_}
-use mathlib.Core.List.{List, _∷_, map}
+use mathlib.Core.List.{List, [], _∷_, map}
 use mathlib.Core.Bool.{Bool, true, false}
 use native.Mathlib.Omega.{arith}
 use lib.ListN.{length, getD, take, drop}
 use lib.Dec.{eqb}
 use Rattle.scan.specs.Bytes.{if_then_else_}
 use Rattle.perms.specs.declared.Perms.{Perms}
+use Rattle.codes.proofs.Laws.{take-least}
 use Rattle.pattern.specs.Expansions.{Variable}
 use Rattle.pattern.specs.Table.{env}
 use Rattle.words.specs.Words.{wordsOf}
 use Rattle.words.specs.declared.Words.{Words}
 use Rattle.findings.specs.Findings.{Access}
 use Rattle.findings.specs.Weighed.{Weighed, nothing}
-use Rattle.entries.specs.Entries.{entryOf, namesFrom, policyIn}
+use Rattle.glob.specs.Glob.{noMatch}
+use Rattle.glob.specs.declared.Matched.{Matched}
+use Rattle.entries.specs.Entries.{Entry, entryOf, namesFrom, policyIn}
 use Rattle.entries.specs.declared.Record.{Record}
-use Rattle.asking.specs.Asking.{askedOf}
+use Rattle.asking.specs.Asking.{askedOf, firstMatch, matchAt, matchOf}
 use Rattle.asking.specs.Steps.{concluded, gatheredIn, numberFrom, outOf, queryBy, queryOf, refusedFor, refusedQuery, weighedEntry}
 use Rattle.asking.specs.declared.Query.{Query}
 use Rattle.asking.proofs.Laws.{walked, asking-walked}
@@ -120,3 +123,46 @@ flat-asked text m n path asked owner k w e f =
     (sym (records-take (k .count) (roomIn (length m)) m 1256 (known .count))))
     ∙ ap (walked text m (recordsIn m) n path asked owner) (e ∙ ap (λ (j : ℕ). queryOf text m j n path asked owner) (sym size))
     ∙ asking-walked text m (recordsIn m) n path asked owner
+
+-- ---- one record
+
+module _ (text m n path : List ℕ) (owner : Bool) where
+  abbrev one : Record → Matched
+  one r = matchOf text (policyIn text m []) n path owner (entryOf text r)
+
+  abbrev first : List Entry → Matched
+  first = firstMatch text (policyIn text m (recordsIn m)) n path owner
+
+  -- of all records only this one is asked
+  first-one : (r : Record) → matchOf text (policyIn text m (recordsIn m)) n path owner (entryOf text r) ≡ one r
+  unfolding matchOf policyIn
+  first-one r = refl
+
+  first-at : (j k at : ℕ) → k < j → first (drop k (map (entryOf text) (recordsFrom j m at))) ≡ one (recordAt m (at + 12 * k))
+  unfolding recordsFrom
+  first-at zero k at h = absurd (omega arith)
+  first-at (suc j) zero at h = first-one (recordAt m at) ∙ (let e : at ≡ at + 12 * 0 = omega arith in ap (λ (i : ℕ). one (recordAt m i)) e)
+  first-at (suc j) (suc k) at h = first-at j k (at + 12) (omega arith) ∙ (let e : at + 12 + 12 * k ≡ at + 12 * suc k = omega arith in ap (λ (i : ℕ). one (recordAt m i)) e)
+
+  first-none : (j k at : ℕ) → j ≤ k → first (drop k (map (entryOf text) (recordsFrom j m at))) ≡ noMatch
+  unfolding recordsFrom
+  first-none zero zero at h = refl
+  first-none zero (suc k) at h = refl
+  first-none (suc j) zero at h = absurd (omega arith)
+  first-none (suc j) (suc k) at h = first-none j k (at + 12) (omega arith)
+
+  module _ (k : ℕ) {count : ℕ} (c : count ≡ min (roomIn (length m)) (getD m 1250 0)) where
+    walked-records : take (getD m 1250 0) (recordsIn m) ≡ recordsFrom count m 1256
+    walked-records =
+        let size : length (recordsIn m) ≡ roomIn (length m) = records-length (roomIn (length m)) m 1256 in
+        take-least (getD m 1250 0) count (recordsIn m) (omega arith) ∙ records-take count (roomIn (length m)) m 1256 (omega arith)
+
+    match-first : first (drop k (map (entryOf text) (recordsFrom count m 1256))) ≡ matchAt text (policyIn text m (recordsIn m)) n path owner k
+    unfolding policyIn
+    match-first = ap (λ (l : List Record). firstMatch text (policyIn text m (recordsIn m)) n path owner (drop k (map (entryOf text) l))) (sym walked-records)
+
+    pub match-here : {r : Record} → k < count → r ≡ recordAt m (1256 + 12 * k) → one r ≡ matchAt text (policyIn text m (recordsIn m)) n path owner k
+    match-here h e = ap one e ∙ sym (first-at count k 1256 h) ∙ match-first
+
+    pub match-nowhere : count ≤ k → noMatch ≡ matchAt text (policyIn text m (recordsIn m)) n path owner k
+    match-nowhere h = sym (first-none count k 1256 h) ∙ match-first

@@ -3,21 +3,26 @@
 use answer::Answer;
 use asking::begin;
 use asking::conclude;
+use asking::match_record;
 use asking::weigh;
 use entries::HEAD;
+use entries::RULE_COUNT;
 use entries::Reading;
 use entries::Record;
 use entries::judge;
 use entries::next_record;
 use entries::start;
+use glob::Matched;
 use modes::Fallback;
 use modes::Kind;
 use modes::Mode;
 use modes::Transition;
 use perms::Perms;
 use rule::Rule;
+use scan::least;
 use text::Place;
 use text::Span;
+use variables::cell;
 use weigh::no_findings;
 use words::Front;
 use words::Words;
@@ -29,7 +34,7 @@ ghost use lib.ListN.{length};
 ghost use lib.Seq.{paste};
 ghost use Rattle.modes.specs.Modes.{kindNumber, fallbackNumber};
 ghost use Rattle.entries.specs.Entries.{entryOf, policyIn};
-ghost use Rattle.asking.specs.Asking.{askedOf};
+ghost use Rattle.asking.specs.Asking.{askedOf, matchAt};
 ghost use Rattle.asking.specs.Steps.{outOf};
 ghost use Rattle.flat.specs.Layout.{bit, encoded, fallbackIn, frontAt, kindIn, number, recordAt, recordsIn, roomIn, ruleAt, transitionIn, transitionNumber};
 ghost use Rattle.flat.specs.Filled.{FilledIn};
@@ -298,4 +303,31 @@ pub fn ask(
         }
     }
     conclude(text, query, found)
+}
+
+// How record number k of what memory holds matches a request, whatever is asked for.
+pub fn match_at(
+    text: &[u8],
+    memory: &[usize],
+    name: &[u8],
+    path: &[u8],
+    owner: bool,
+    k: usize,
+) -> Matched
+    ensures { λ r. ⌜ r ≡ matchAt (now (text .entry)) (policyIn (now (text .entry)) (now (memory .entry)) (recordsIn (now (memory .entry)))) (now (name .entry)) (now (path .entry)) owner k ⌝ }
+{
+    if k < least(room_in(memory.len()), cell(memory, RULE_COUNT)) {
+        return match_record(
+            text,
+            memory,
+            name,
+            path,
+            owner,
+            load(memory, HEAD + WORDS * k),
+        );
+    }
+    Matched {
+        some: false,
+        exact: false,
+    }
 }

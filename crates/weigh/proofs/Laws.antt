@@ -38,7 +38,7 @@ use Rattle.weigh.proofs.Sound.{All, Sound, rule-sound, rules-sound}
 pub fitting : {text path : List ℕ} → Fits text path → (textFits text && pathFits path) ≡ true
 fitting {text} f = rw (le-leb (length text) 65535 (f .short)) (f .fits)
 
-matched-fit : (text path : List ℕ) (vs : List Variable) (pattern : List ℕ) → (textFits text && pathFits path) ≡ true → patternFault vs pattern ≡ 0 →
+pub matched-fit : (text path : List ℕ) (vs : List Variable) (pattern : List ℕ) → (textFits text && pathFits path) ≡ true → patternFault vs pattern ≡ 0 →
     matchedOf text vs pattern path ≡ record { some = matchesSome vs pattern path; exact = matchesExactly vs pattern path }
 unfolding matchedOf
 matched-fit text path vs pattern e g = rw (e, eq-eqb (patternFault vs pattern) 0 g)
@@ -131,7 +131,7 @@ module _ (vs : List Variable) (r : Rule) (h : Sound vs r) where
         ∙ sym weigh-joined
 
 -- by what the code asks, where it found x
-owner-turned : (a b : Bool) → (not a || b) ≡ not (a && not b)
+pub owner-turned : (a b : Bool) → (not a || b) ≡ not (a && not b)
 owner-turned true true = refl
 owner-turned true false = refl
 owner-turned false b = refl
