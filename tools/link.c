@@ -1,10 +1,13 @@
-/* Asks the library about text T of document 01, as the broker does. */
+/* Asks the library about text T of document 01 (samples/step.profile), as a broker does. */
 #include "sidluqethe.h"
 #include <stdio.h>
 #include <string.h>
 
 #if SIDLUQETHE_LAYOUT != 2
 #error "answers have another layout"
+#endif
+#if SIDLUQETHE_VERSION != 300
+#error "the header has another version"
 #endif
 
 static const char text[] = "@{RUN}=/runs/a/ /runs/b/\n"
@@ -23,6 +26,19 @@ static unsigned long number(const uint8_t *at) {
     return at[0] | (unsigned long)at[1] << 8 | (unsigned long)at[2] << 16 | (unsigned long)at[3] << 24;
 }
 
+/* Tells where the struct, a view of the same bytes, says something else than the bytes at their places. */
+static void view(const uint8_t *a, uint8_t asked) {
+    sidluqethe_answer s;
+    memcpy(&s, a, sizeof s);
+    if (s.refusal != a[SIDLUQETHE_AT_REFUSAL] || s.granted != a[SIDLUQETHE_AT_GRANTED] || s.recorded != a[SIDLUQETHE_AT_RECORDED]
+        || s.execute != a[SIDLUQETHE_AT_EXECUTE] || s.target_length != a[SIDLUQETHE_AT_TARGET_LENGTH]
+        || memcmp(s.target, a + SIDLUQETHE_AT_TARGET, sizeof s.target))
+        printf("viewed otherwise: ");
+    if (sidluqethe_line(&s) != number(a + SIDLUQETHE_AT_LINE) || sidluqethe_column(&s) != number(a + SIDLUQETHE_AT_COLUMN))
+        printf("placed otherwise: ");
+    if (sidluqethe_grants(&s, asked) != (s.refusal == 0 && (s.granted & asked) == asked)) printf("granted otherwise: ");
+}
+
 /* Asks the text, and then what was read of it: both answers are the same bytes. */
 static void ask(const char *name, const char *path, uint8_t asked, uint8_t owner) {
     uint8_t a[SIDLUQETHE_ANSWER_BYTES], b[SIDLUQETHE_ANSWER_BYTES];
@@ -31,6 +47,7 @@ static void ask(const char *name, const char *path, uint8_t asked, uint8_t owner
     size_t m = sidluqethe_ask((const uint8_t *)text, strlen(text), memory, SIDLUQETHE_MEMORY_WORDS, (const uint8_t *)name,
                               strlen(name), (const uint8_t *)path, strlen(path), asked, owner, b, sizeof b);
     if (n != m || memcmp(a, b, sizeof a)) printf("asked otherwise: ");
+    view(a, asked);
     printf("%zu %u %lu %lu %u %u %u %.*s\n", n, a[SIDLUQETHE_AT_REFUSAL], number(a + SIDLUQETHE_AT_LINE),
            number(a + SIDLUQETHE_AT_COLUMN), a[SIDLUQETHE_AT_GRANTED], a[SIDLUQETHE_AT_RECORDED], a[SIDLUQETHE_AT_EXECUTE],
            a[SIDLUQETHE_AT_TARGET_LENGTH], (const char *)a + SIDLUQETHE_AT_TARGET);
@@ -66,8 +83,82 @@ static void refused(const char *front, size_t blanks, const char *back) {
     size_t n = sidluqethe_decide(bytes, all, (const uint8_t *)"step", 4, (const uint8_t *)"/a", 2, 1, 0, a, sizeof a);
     size_t m = sidluqethe_read(bytes, all, words, SIDLUQETHE_MEMORY_WORDS, b, sizeof b);
     if (n != m || memcmp(a, b, sizeof a)) printf("read otherwise: ");
+    view(a, 1);
     printf("%zu %u %lu %lu: %u %u %u %u\n", n, a[SIDLUQETHE_AT_REFUSAL], number(a + SIDLUQETHE_AT_LINE), number(column), column[0],
            column[1], column[2], column[3]);
+}
+
+/* How each of the text's rules matches a path, and one past the last. */
+static void match(const char *name, const char *path, uint8_t owner) {
+    size_t rule;
+    printf("%s %s%s:", name, path, owner ? " owner" : "");
+    for (rule = 0; rule <= sidluqethe_rule_count(memory); rule++)
+        printf(" %u", sidluqethe_match((const uint8_t *)text, strlen(text), memory, SIDLUQETHE_MEMORY_WORDS, (const uint8_t *)name,
+                                       strlen(name), (const uint8_t *)path, strlen(path), owner, rule));
+    printf("\n");
+}
+
+/* The paths of the marked cases, each with and without the owner mark; then what matches nothing. */
+static void match_all(void) {
+    static const char *const paths[] = {"/runs/a/in/x",     "/runs/c/in/x",  "/runs/a/in/d/x", "/runs/b/out/d/y",
+                                        "/runs/a/out/lock", "/runs/b/out/y", "/bin/cat",       "/bin/ls"};
+    size_t i;
+    for (i = 0; i < sizeof paths / sizeof *paths; i++) {
+        match("step", paths[i], 0);
+        match("step", paths[i], 1);
+    }
+    match("other", "/bin/cat", 0);
+    match("step", "bin/cat", 0);
+}
+
+static void put_place(const char *of, sidluqethe_place place) {
+    printf(" %.*s", (int)(place.end - place.from), of + place.from);
+}
+
+/* What the readers say of memory that a text has filled: counts, the profiles' names, then each rule. */
+static void show(const char *of, const uint64_t *words) {
+    size_t i;
+    printf("%zu %zu %zu", sidluqethe_variable_count(words), sidluqethe_profile_count(words), sidluqethe_rule_count(words));
+    for (i = 0; i < sidluqethe_profile_count(words); i++) put_place(of, sidluqethe_profile_name(words, i));
+    printf("\n");
+    for (i = 0; i < sidluqethe_rule_count(words); i++) {
+        printf("%zu %u %u %s", sidluqethe_rule_profile(words, i), sidluqethe_rule_qualifiers(words, i),
+               sidluqethe_rule_permissions(words, i), sidluqethe_execute_name(sidluqethe_rule_execute(words, i)));
+        put_place(of, sidluqethe_rule_pattern(words, i));
+        put_place(of, sidluqethe_rule_target(words, i));
+        printf("\n");
+    }
+}
+
+/* Two profiles, quoted tokens, each qualifier and each transition. */
+static void show_others(void) {
+    static const char other[] = "profile \"a b\" {\n"
+                                "  audit owner \"/q r\" mlk,\n"
+                                "  deny /d wx,\n"
+                                "}\n"
+                                "/b {\n"
+                                "  /1 ux, /2 Ux, /3 px, /4 Px -> \"t\", /5 cx, /6 Cx, /7 rix, /8 pix, /9 Pix, /10 cix, /11 Cix,\n"
+                                "  /12 pux, /13 PUx, /14 cux, /15 CUx -> u,\n"
+                                "}\n";
+    static uint64_t words[SIDLUQETHE_MEMORY_WORDS];
+    sidluqethe_answer answer;
+    sidluqethe_read((const uint8_t *)other, strlen(other), words, SIDLUQETHE_MEMORY_WORDS, &answer, sizeof answer);
+    printf("%u: %s\n", answer.refusal, sidluqethe_meaning(answer.refusal));
+    show(other, words);
+}
+
+/* The names of all numbers, and of one too many; and what grants nothing. */
+static void names(void) {
+    sidluqethe_answer nothing;
+    unsigned i;
+    for (i = 0; i <= 12; i++) printf("%u %s\n", i, sidluqethe_meaning((uint8_t)i));
+    for (i = 0; i <= 18; i++) printf("%s%s", i ? " " : "", sidluqethe_execute_name((uint8_t)i));
+    memset(&nothing, 0, sizeof nothing);
+    printf("\n%d %d", sidluqethe_grants(&nothing, 0), sidluqethe_grants(&nothing, 1));
+    nothing.granted = SIDLUQETHE_READ;
+    printf(" %d %d", sidluqethe_grants(&nothing, SIDLUQETHE_READ), sidluqethe_grants(&nothing, SIDLUQETHE_READ | SIDLUQETHE_WRITE));
+    nothing.refusal = SIDLUQETHE_BAD_PATH;
+    printf(" %d\n", sidluqethe_grants(&nothing, SIDLUQETHE_READ));
 }
 
 int main(void) {
@@ -97,5 +188,10 @@ int main(void) {
     refused("profile step {", 65521, "");
     printf("%zu %zu\n", sidluqethe_read((const uint8_t *)text, strlen(text), memory, SIDLUQETHE_HEAD_WORDS - 1, whole, sizeof whole),
            sidluqethe_read((const uint8_t *)text, strlen(text), memory, SIDLUQETHE_MEMORY_WORDS, less, sizeof less));
+    match_all();
+    show(text, memory);
+    show_others();
+    names();
+    printf("%d\n", sidluqethe_version() == SIDLUQETHE_VERSION);
     return 0;
 }

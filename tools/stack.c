@@ -1,5 +1,5 @@
-/* Asks the largest texts, accepted and refused, in threads with 64 KiB of stack, in one call and as reading and asking, and says how
- * much of the stack the deepest call used.
+/* Asks the largest texts, accepted and refused, in threads with 64 KiB of stack, in one call and as reading and asking, also how
+ * each rule matches, and says how much of the stack the deepest call used.
  * The stack is filled with one byte before the thread starts; what is no longer that byte afterwards was used. */
 #define _GNU_SOURCE
 #include "sidluqethe.h"
@@ -56,6 +56,12 @@ static void *ask_often(void *unused) {
     return unused;
 }
 
+static void *match_all(void *unused) {
+    for (size_t rule = 0; rule < sidluqethe_rule_count(memory); rule++)
+        sidluqethe_match(text, length, memory, SIDLUQETHE_MEMORY_WORDS, (const uint8_t *)"p", 1, path, path_length, 1, rule);
+    return unused;
+}
+
 /* One call that does nothing: what a thread uses of its stack by itself. */
 static void *rest(void *unused) { return unused; }
 
@@ -97,12 +103,14 @@ static void work(const char *what, void *(*call)(void *), unsigned refusal) {
     if (all - own > most) most = all - own;
 }
 
-/* Asks in one call, and by reading and asking where the text is accepted. */
+/* Asks in one call, and by reading, asking and matching where the text is accepted. */
 static void expect(const char *what, unsigned refusal) {
     int text_refused = refusal == SIDLUQETHE_LONG_TEXT || refusal == SIDLUQETHE_BAD_FORM;
     work(what, ask, refusal);
     work(what, read_once, text_refused ? refusal : 0);
-    if (!text_refused) work(what, ask_often, refusal);
+    if (text_refused) return;
+    work(what, ask_often, refusal);
+    work(what, match_all, refusal);
 }
 
 /* 32 variables, each used by the next; v is the value of the first. */

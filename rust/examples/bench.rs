@@ -11,7 +11,7 @@
 //! reads it into memory, `bench long TIMES` reads the long text, and `bench
 //! lines TIMES` counts its LFs.
 
-use sidluqethe::{decide, Perms, Policy, Request};
+use sidluqethe::{decide, Perms, Policy, Reason, Request};
 use std::env;
 use std::ffi::CString;
 use std::hint::black_box;
@@ -203,7 +203,7 @@ fn load(kind: Kind, rules: usize) -> Load {
 /// How many of the paths may be read, by what was read once.
 fn by_asking(policy: &Policy, paths: &[CString]) -> usize {
     let reads = |path: &&CString| {
-        let request = Request::new(b"lab", path.as_bytes(), Perms::READ);
+        let request = Request::new("lab", path.as_bytes(), Perms::READ);
         let answer = policy.ask(&request);
         answer.expect("a good request").granted == Perms::READ
     };
@@ -213,7 +213,7 @@ fn by_asking(policy: &Policy, paths: &[CString]) -> usize {
 /// How many of the paths may be read.
 fn by_decide(text: &[u8], paths: &[CString]) -> usize {
     let reads = |path: &&CString| {
-        let answer = decide(text, b"lab", path.as_bytes(), Perms::READ, false);
+        let answer = decide(text, &Request::new("lab", path.as_bytes(), Perms::READ));
         answer.expect("an accepted text").granted == Perms::READ
     };
     paths.iter().filter(reads).count()
@@ -222,8 +222,8 @@ fn by_decide(text: &[u8], paths: &[CString]) -> usize {
 /// Has the text read for each of the paths, and nothing matched.
 fn by_reading(text: &[u8], paths: &[CString]) -> usize {
     let is_read = |path: &&CString| {
-        let answer = decide(text, b"absent", path.as_bytes(), Perms::READ, false);
-        answer.is_err_and(|refusal| refusal.number == 11)
+        let answer = decide(text, &Request::new("absent", path.as_bytes(), Perms::READ));
+        answer.is_err_and(|refusal| refusal.reason == Reason::NoProfile)
     };
     paths.iter().filter(is_read).count()
 }
@@ -366,7 +366,7 @@ fn only(arguments: &[&str]) {
         ["fill", rules, times] => {
             let load = load(Kind::Plain, number(rules));
             let read = |_| Policy::read(&load.text[..]).expect("an accepted text");
-            (0..number(times)).map(|n| read(n).rules()).sum()
+            (0..number(times)).map(|n| read(n).rule_count()).sum()
         }
         ["decide", rules, times] => {
             let load = load(Kind::Plain, number(rules));

@@ -1,4 +1,7 @@
-//! The C entry points of `libbroker.a`: the only unsafe code of the package.
+//! The C entry points of `libsidluqethe.a`: the only unsafe code of the
+//! package.
+
+use crate::Request;
 
 /// Bytes of an answer, and where its parts stand.
 pub(crate) const ANSWER: usize = 268;
@@ -57,6 +60,21 @@ extern "C" {
         answer: *mut u8,
         answer_len: usize,
     ) -> usize;
+
+    fn sidluqethe_match(
+        text: *const u8,
+        text_len: usize,
+        memory: *const u64,
+        memory_len: usize,
+        name: *const u8,
+        name_len: usize,
+        path: *const u8,
+        path_len: usize,
+        owner: u8,
+        rule: usize,
+    ) -> u8;
+
+    fn sidluqethe_version() -> u32;
 }
 
 /// A number of four bytes in an answer, lowest first.
@@ -71,13 +89,7 @@ fn whole(written: usize, answer: [u8; ANSWER]) -> [u8; ANSWER] {
 }
 
 /// Asks the library; the answer comes back as it stands in the buffer.
-pub(crate) fn decide(
-    text: &[u8],
-    name: &[u8],
-    path: &[u8],
-    asked: u8,
-    owner: bool,
-) -> [u8; ANSWER] {
+pub(crate) fn decide(text: &[u8], request: &Request<'_>) -> [u8; ANSWER] {
     let mut answer = [0u8; ANSWER];
     // SAFETY: each pointer comes from a slice or array that outlives the
     // call, with that slice's length. The library only reads the first three
@@ -87,12 +99,12 @@ pub(crate) fn decide(
         sidluqethe_decide(
             text.as_ptr(),
             text.len(),
-            name.as_ptr(),
-            name.len(),
-            path.as_ptr(),
-            path.len(),
-            asked,
-            u8::from(owner),
+            request.profile.as_ptr(),
+            request.profile.len(),
+            request.path.as_ptr(),
+            request.path.len(),
+            request.asked.bits(),
+            u8::from(request.owner),
             answer.as_mut_ptr(),
             answer.len(),
         )
@@ -119,14 +131,7 @@ pub(crate) fn read(text: &[u8], memory: &mut [u64]) -> [u8; ANSWER] {
 }
 
 /// Asks what the library has read; any memory and any text end in an answer.
-pub(crate) fn ask(
-    text: &[u8],
-    memory: &[u64],
-    name: &[u8],
-    path: &[u8],
-    asked: u8,
-    owner: bool,
-) -> [u8; ANSWER] {
+pub(crate) fn ask(text: &[u8], memory: &[u64], request: &Request<'_>) -> [u8; ANSWER] {
     let mut answer = [0u8; ANSWER];
     // SAFETY: as above; memory is only read.
     let written = unsafe {
@@ -135,15 +140,41 @@ pub(crate) fn ask(
             text.len(),
             memory.as_ptr(),
             memory.len(),
-            name.as_ptr(),
-            name.len(),
-            path.as_ptr(),
-            path.len(),
-            asked,
-            u8::from(owner),
+            request.profile.as_ptr(),
+            request.profile.len(),
+            request.path.as_ptr(),
+            request.path.len(),
+            request.asked.bits(),
+            u8::from(request.owner),
             answer.as_mut_ptr(),
             answer.len(),
         )
     };
     whole(written, answer)
+}
+
+/// How a rule of what the library has read matches a request: 0 it does not,
+/// 1 it does, 2 exactly.
+pub(crate) fn rule_match(text: &[u8], memory: &[u64], request: &Request<'_>, rule: usize) -> u8 {
+    // SAFETY: as above; everything is only read.
+    unsafe {
+        sidluqethe_match(
+            text.as_ptr(),
+            text.len(),
+            memory.as_ptr(),
+            memory.len(),
+            request.profile.as_ptr(),
+            request.profile.len(),
+            request.path.as_ptr(),
+            request.path.len(),
+            u8::from(request.owner),
+            rule,
+        )
+    }
+}
+
+/// The library's version.
+pub(crate) fn version() -> u32 {
+    // SAFETY: it takes nothing and touches no memory of ours.
+    unsafe { sidluqethe_version() }
 }

@@ -1,48 +1,9 @@
 //! A profile text that is read once and asked often.
 
-use crate::{decode, ffi, Answer, Perms, Refusal};
+use crate::answer::decode;
+use crate::table::Table;
+use crate::{ffi, Answer, Match, Refusal, Request, Rule};
 use std::fmt;
-
-/// What is asked of a [`Policy`].
-///
-/// ```
-/// use sidluqethe::{Perms, Request};
-///
-/// let request = Request::new(b"step", b"/data/a.vcf", Perms::READ).owner(true);
-/// assert_eq!(request.path, b"/data/a.vcf");
-/// assert!(request.owner);
-/// ```
-#[derive(Clone, Copy, Debug, PartialEq, Eq, Hash)]
-#[non_exhaustive]
-pub struct Request<'a> {
-    /// The name of the profile that the step runs under.
-    pub profile: &'a [u8],
-    /// The path of the file.
-    pub path: &'a [u8],
-    /// The asked permissions.
-    pub asked: Perms,
-    /// Whether the file is the step's own.
-    pub owner: bool,
-}
-
-impl<'a> Request<'a> {
-    /// A request for a file that is not the step's own.
-    #[must_use]
-    pub const fn new(profile: &'a [u8], path: &'a [u8], asked: Perms) -> Request<'a> {
-        Request {
-            profile,
-            path,
-            asked,
-            owner: false,
-        }
-    }
-
-    /// The same request with this owner mark.
-    #[must_use]
-    pub const fn owner(self, owner: bool) -> Request<'a> {
-        Request { owner, ..self }
-    }
-}
 
 /// A profile text that was accepted, and what was read of it.
 ///
@@ -53,12 +14,12 @@ impl<'a> Request<'a> {
 /// use sidluqethe::{Perms, Policy, Refusal, Request};
 ///
 /// let policy = Policy::read("profile step { /data/*.vcf r, }")?;
-/// assert_eq!(policy.names().collect::<Vec<_>>(), [b"step"]);
+/// assert_eq!(policy.profiles().collect::<Vec<_>>(), [b"step"]);
 ///
-/// let request = Request::new(b"step", b"/data/a.vcf", Perms::READ);
+/// let request = Request::new("step", "/data/a.vcf", Perms::READ);
 /// assert_eq!(policy.ask(&request)?.granted, Perms::READ);
 ///
-/// let other = Request::new(b"step", b"/data/b.bam", Perms::READ);
+/// let other = Request::new("step", "/data/b.bam", Perms::READ);
 /// assert_eq!(policy.ask(&other)?.granted, Perms::NONE);
 /// # Ok::<(), Refusal>(())
 /// ```
@@ -68,36 +29,35 @@ pub struct Policy {
     memory: Box<[u64]>,
 }
 
-/// Where the table of profiles starts, and where the counts of profiles and
-/// rules stand.
-const PROFILES: usize = 1_120;
-const PROFILE_COUNT: usize = 1_249;
-const RULE_COUNT: usize = 1_250;
-
 impl Policy {
     /// Reads a text.
     ///
     /// # Errors
     ///
-    /// A text that the rules refuse gives the refusal's number, line and
-    /// column.
+    /// A text that the rules refuse gives the reason, line and column.
     pub fn read(text: impl Into<Vec<u8>>) -> Result<Policy, Refusal> {
         Policy::read_within(text, ffi::RULES)
     }
 
-    /// Reads a text with room for so many rules.
+    /// Reads a text with room for so many rules, so that less memory is
+    /// taken; 512 are the most in any case.
     ///
     /// # Errors
     ///
-    /// As [`Policy::read`]; and 9 at the pattern of the first rule that finds
-    /// no room.
+    /// As [`Policy::read`]; and
+    /// [`Reason::TooMuch`](crate::Reason::TooMuch) at the pattern of the first
+    /// rule that finds no room.
     pub fn read_within(text: impl Into<Vec<u8>>, rules: usize) -> Result<Policy, Refusal> {
         let text = text.into().into_boxed_slice();
         let rules = rules.min(ffi::RULES);
         let mut memory = vec![0; ffi::HEAD + ffi::RULE * rules];
         decode(&ffi::read(&text, &mut memory))?;
+        let table = Table {
+            text: &text,
+            memory: &memory,
+        };
         // What stands beyond the last rule is not asked for.
-        let used = ffi::HEAD + ffi::RULE * cell(&memory, RULE_COUNT);
+        let used = ffi::HEAD + ffi::RULE * table.rule_count();
         memory.truncate(used);
         let memory = memory.into_boxed_slice();
         Ok(Policy { text, memory })
@@ -108,16 +68,11 @@ impl Policy {
     /// # Errors
     ///
     /// A path, asked set or profile name that the rules refuse gives the
-    /// refusal's number: 2, 3 or 11.
+    /// reason: [`BadPath`](crate::Reason::BadPath),
+    /// [`BadAsked`](crate::Reason::BadAsked) or
+    /// [`NoProfile`](crate::Reason::NoProfile), in this order.
     pub fn ask(&self, request: &Request<'_>) -> Result<Answer, Refusal> {
-        let Request {
-            profile,
-            path,
-            asked,
-            owner,
-        } = *request;
-        let answer = ffi::ask(&self.text, &self.memory, profile, path, asked.0, owner);
-        decode(&answer)
+        decode(&ffi::ask(&self.text, &self.memory, request))
     }
 
     /// The text.
@@ -126,32 +81,83 @@ impl Policy {
     }
 
     /// The names of the profiles, in the text's order.
-    pub fn names(&self) -> impl Iterator<Item = &[u8]> + '_ {
-        (0..cell(&self.memory, PROFILE_COUNT)).map(|i| {
-            let from = cell(&self.memory, PROFILES + 4 * i);
-            let end = cell(&self.memory, PROFILES + 4 * i + 1);
-            &self.text[from..end]
-        })
+    pub fn profiles(&self) -> impl Iterator<Item = &[u8]> + '_ {
+        let table = self.table();
+        (0..self.profile_count()).map(move |profile| table.bytes(table.name(profile)))
+    }
+
+    /// The rules of all profiles, in the text's order.
+    pub fn rules(&self) -> impl Iterator<Item = Rule<'_>> + '_ {
+        let table = self.table();
+        (0..self.rule_count()).map(move |number| Rule::of(table, number))
+    }
+
+    /// How the rule of this number matches a request; what is asked for plays
+    /// no part. None where it does not match: also where it is another
+    /// profile's, where there is no such rule, and for a request whose path or
+    /// profile name is refused.
+    pub fn rule_match(&self, number: usize, request: &Request<'_>) -> Option<Match> {
+        let how = ffi::rule_match(&self.text, &self.memory, request, number);
+        Match::of_number(how)
+    }
+
+    /// The rules that match a request, in the text's order. They alone make
+    /// the answer: without the others it would be the same.
+    ///
+    /// ```
+    /// use sidluqethe::{Match, Perms, Policy, Refusal, Request};
+    ///
+    /// let policy = Policy::read("profile step { /bin/cat ix, /bin/* px, /lib/** rm, }")?;
+    /// let request = Request::new("step", "/bin/cat", Perms::EXECUTE);
+    /// let found = policy.matching(&request)?;
+    /// assert_eq!(found.len(), 2);
+    /// assert_eq!((found[0].0.text, found[0].1), (&b"/bin/cat ix,"[..], Match::Exact));
+    /// assert_eq!((found[1].0.text, found[1].1), (&b"/bin/* px,"[..], Match::Other));
+    /// # Ok::<(), Refusal>(())
+    /// ```
+    ///
+    /// # Errors
+    ///
+    /// As [`Policy::ask`].
+    pub fn matching(&self, request: &Request<'_>) -> Result<Vec<(Rule<'_>, Match)>, Refusal> {
+        self.ask(request)?;
+        let found = (0..self.rule_count()).filter_map(|number| {
+            let how = self.rule_match(number, request)?;
+            Some((Rule::of(self.table(), number), how))
+        });
+        Ok(found.collect())
     }
 
     /// How many rules the profiles have together.
-    pub fn rules(&self) -> usize {
-        cell(&self.memory, RULE_COUNT)
+    pub fn rule_count(&self) -> usize {
+        self.table().rule_count()
     }
-}
 
-/// A number of memory that is a place or a count.
-fn cell(memory: &[u64], at: usize) -> usize {
-    usize::try_from(memory[at]).expect("a place in a text")
+    /// How many variables the text sets.
+    pub fn variable_count(&self) -> usize {
+        self.table().variable_count()
+    }
+
+    /// How many profiles the text has.
+    pub fn profile_count(&self) -> usize {
+        self.table().profile_count()
+    }
+
+    fn table(&self) -> Table<'_> {
+        Table {
+            text: &self.text,
+            memory: &self.memory,
+        }
+    }
 }
 
 impl fmt::Debug for Policy {
     /// The names of its profiles and the number of its rules.
     fn fmt(&self, f: &mut fmt::Formatter<'_>) -> fmt::Result {
-        let names = self.names().map(String::from_utf8_lossy);
+        let names = self.profiles().map(String::from_utf8_lossy);
         f.debug_struct("Policy")
             .field("profiles", &names.collect::<Vec<_>>())
-            .field("rules", &self.rules())
+            .field("rules", &self.rule_count())
             .finish_non_exhaustive()
     }
 }

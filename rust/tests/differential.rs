@@ -2,10 +2,12 @@
 
 mod generator;
 mod reference;
+mod rules;
 mod vector;
 
 use generator::Stream;
-use reference::{Answer, Execute, Refusal};
+use reference::text::File;
+use reference::{Execute, Judgement, Match, Refusal};
 use sidluqethe::Policy;
 use std::collections::BTreeMap;
 use std::env;
@@ -41,19 +43,18 @@ fn compare(seed: u64, requests: usize) {
     let start = Instant::now();
     let mut spread = Spread::default();
     let mut differences = 0;
+    let mut last = None;
     for request in Stream::new(seed).take(requests) {
-        let expected = request.by_reference();
-        spread.count(&request, &expected);
-        let expected = fields(&expected);
-        let decided = request.by_library();
-        let asked = request.by_policy();
-        let rooms = in_every_room(&request.text);
-        if decided != expected || asked != expected || rooms.is_err() {
+        let judged = request.judged();
+        spread.count(&request, &judged);
+        let new = last.as_ref() != Some(&request.text);
+        if let Err(difference) = differs(&request, &judged, new) {
             differences += 1;
-            println!("{}\t{expected}", request.line());
-            println!("  the library: {decided}, by asking: {asked}, rooms: {rooms:?}");
+            println!("{}\t{}", request.line(), fields(&judged.answer));
+            println!("  {difference}");
             assert!(differences < 20, "too many differences, seed {seed}");
         }
+        last = Some(request.text);
     }
     println!(
         "compared {requests} requests, seed {seed}, {:?}",
@@ -63,21 +64,45 @@ fn compare(seed: u64, requests: usize) {
     assert_eq!(differences, 0, "seed {seed}");
 }
 
+/// What the library says where it differs. What is said of a text alone is
+/// compared only where the text is new.
+fn differs(request: &Request, judged: &Judgement, new: bool) -> Result<(), String> {
+    let expected = fields(&judged.answer);
+    let read = request.read();
+    let (decided, asked) = (request.by_library(), request.by_policy(&read));
+    if decided != expected || asked != expected {
+        return Err(format!("the library: {decided}, by asking: {asked}"));
+    }
+    if new {
+        in_every_room(&request.text, judged.file.as_ref())?;
+    }
+    match (&read, &judged.file) {
+        (Ok(policy), Some(file)) => {
+            if new {
+                rules::same_rules(policy, file)?;
+            }
+            rules::same_matches(request, policy, judged)
+        }
+        (Err(_), None) => Ok(()),
+        _ => Err(format!("the library has read {read:?}")),
+    }
+}
+
 /// Reads the text with room for no rule, for one too few, for all and for
 /// 512; what both say where they differ.
-fn in_every_room(text: &[u8]) -> Result<(), String> {
+fn in_every_room(text: &[u8], file: Option<&File>) -> Result<(), String> {
     if text.len() > 65_535 {
         return Ok(());
     }
-    let rules = reference::text::read(text).map_or(1, |file| file.rules);
+    let rules = file.map_or(1, |file| file.rules);
     for room in [0, rules.saturating_sub(1), rules, 512] {
         let expected = reference::text::read_within(text, room);
         let expected = expected
             .map(|file| file.rules)
             .map_err(|r| (r.number, r.line, r.column));
         let given = Policy::read_within(text, room)
-            .map(|policy| policy.rules())
-            .map_err(|r| (r.number, r.line, r.column));
+            .map(|policy| policy.rule_count())
+            .map_err(|r| (r.number(), r.line, r.column));
         if given != expected {
             return Err(format!("{room}: {expected:?}, the library {given:?}"));
         }
@@ -91,7 +116,7 @@ fn spread() {
     let start = Instant::now();
     let mut spread = Spread::default();
     for request in Stream::new(SEED).take(REQUESTS) {
-        spread.count(&request, &request.by_reference());
+        spread.count(&request, &request.judged());
     }
     println!(
         "judged {REQUESTS} requests, seed {SEED}, {:?}",
@@ -108,6 +133,9 @@ fn spread() {
         "granted none",
         "recorded",
         "target",
+        "rule matches exactly",
+        "rule matches otherwise",
+        "rule matches not",
     ];
     let others = others.into_iter().chain(PLACES.iter().copied());
     for kind in wanted.chain(others.map(String::from)) {
@@ -177,8 +205,15 @@ impl Spread {
         self.0.get(kind).copied().unwrap_or(0)
     }
 
-    fn count(&mut self, request: &Request, answer: &Result<Answer, Refusal>) {
-        let answer = match answer {
+    fn count(&mut self, request: &Request, judged: &Judgement) {
+        for how in &judged.matches {
+            self.add(match how {
+                Match::Exact => "rule matches exactly",
+                Match::Other => "rule matches otherwise",
+                Match::No => "rule matches not",
+            });
+        }
+        let answer = match &judged.answer {
             Err(refusal) => {
                 self.add(format!("refused {:2}", refusal.number));
                 return self.count_place(&request.text, refusal);

@@ -15,9 +15,9 @@ profile one {
 #[test]
 fn a_policy_says_what_it_has_read() {
     let policy = Policy::read(TEXT).unwrap();
-    let names: Vec<&[u8]> = policy.names().collect();
+    let names: Vec<&[u8]> = policy.profiles().collect();
     assert_eq!(names, [&b"one"[..], b"/two"]);
-    assert_eq!(policy.rules(), 3);
+    assert_eq!(policy.rule_count(), 3);
     assert_eq!(policy.text(), TEXT.as_bytes());
     assert_eq!(
         format!("{policy:?}"),
@@ -29,15 +29,15 @@ fn a_policy_says_what_it_has_read() {
 fn room_for_fewer_rules_is_told_at_the_first_that_finds_none() {
     let refused = |room| {
         let refusal = Policy::read_within(TEXT, room).unwrap_err();
-        (refusal.number, refusal.line, refusal.column)
+        (refusal.number(), refusal.line, refusal.column)
     };
     assert_eq!(refused(0), (9, 3, 3));
     assert_eq!(refused(1), (9, 4, 8));
     assert_eq!(refused(2), (9, 6, 8));
-    assert_eq!(Policy::read_within(TEXT, 3).unwrap().rules(), 3);
-    assert_eq!(Policy::read_within(TEXT, 9_999).unwrap().rules(), 3);
+    assert_eq!(Policy::read_within(TEXT, 3).unwrap().rule_count(), 3);
+    assert_eq!(Policy::read_within(TEXT, 9_999).unwrap().rule_count(), 3);
     // 4 and 5 at that place come before it, 7 after it.
-    let at = |text: &str| Policy::read_within(text, 0).unwrap_err().number;
+    let at = |text: &str| Policy::read_within(text, 0).unwrap_err().number();
     assert_eq!(at("/p { mount,"), 5);
     assert_eq!(at("/p { \"/a"), 4);
     assert_eq!(at("/p { x r, }"), 9);
@@ -59,15 +59,15 @@ fn refusals_come_in_their_order() {
     let policy = Policy::read(TEXT).unwrap();
     let number = |name: &[u8], path: &[u8], asked| {
         let refusal = policy
-            .ask(&Request::new(name, path, Perms(asked)))
+            .ask(&Request::new(name, path, Perms::from_bits(asked)))
             .unwrap_err();
         assert_eq!((refusal.line, refusal.column), (0, 0));
-        refusal.number
+        refusal.number()
     };
     assert_eq!(number(b"x", b"a", 0), 2);
     assert_eq!(number(b"x", b"/a", 0), 3);
     assert_eq!(number(b"x", b"/a", 1), 11);
-    assert_eq!(Policy::read(vec![b'#'; 65_536]).unwrap_err().number, 1);
+    assert_eq!(Policy::read(vec![b'#'; 65_536]).unwrap_err().number(), 1);
 }
 
 /// What threads may share and hand on.
@@ -102,9 +102,9 @@ fn asking_gives_the_answers_of_decide() {
     for name in [&b"one"[..], b"/two", b"three"] {
         for path in [&b"/a/x"[..], b"/b/x", b"/b/y", b"/bin/cat", b"", b"/b//x"] {
             for asked in [0, 1, 64, 65, 127, 128] {
-                let by_policy = policy.ask(&Request::new(name, path, Perms(asked)));
-                let by_text = decide(TEXT.as_bytes(), name, path, Perms(asked), false);
-                assert_eq!(by_policy, by_text);
+                let request = Request::new(name, path, Perms::from_bits(asked));
+                let by_text = decide(TEXT.as_bytes(), &request);
+                assert_eq!(policy.ask(&request), by_text);
             }
         }
     }

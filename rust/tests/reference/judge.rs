@@ -26,13 +26,17 @@ pub struct Findings {
 
 /// "A rule matches a request when its pattern matches and, if it says
 /// `owner`, the request's owner mark is set."
-pub fn findings(rules: &[Rule], variables: &[Variable], path: &[u8], owner: bool) -> Findings {
+pub fn find(rule: &Rule, variables: &[Variable], path: &[u8], owner: bool) -> Match {
+    if rule.owner && !owner {
+        return Match::No;
+    }
+    pattern::find(&rule.pattern, variables, path)
+}
+
+/// The findings of rules, each with how it matches.
+pub fn findings<'a>(rules: impl Iterator<Item = (&'a Rule, Match)>) -> Findings {
     let mut found = Findings::default();
-    for rule in rules {
-        if rule.owner && !owner {
-            continue;
-        }
-        let how = pattern::find(&rule.pattern, variables, path);
+    for (rule, how) in rules {
         if how != Match::No {
             note(&mut found, rule, how);
         }

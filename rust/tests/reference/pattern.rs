@@ -250,7 +250,7 @@ pub fn all_begin_with_slash(items: &[Item], variables: &[Variable]) -> bool {
 // --------------------------------------------------------------- matches
 
 /// How a rule's pattern takes a path.
-#[derive(Clone, Copy, PartialEq)]
+#[derive(Clone, Copy, Debug, PartialEq)]
 pub enum Match {
     No,
     Exact,

@@ -58,11 +58,32 @@ pub struct Rule {
     pub pattern: Vec<Item>,
     pub bits: u8,
     pub transition: Option<Transition>,
+    pub places: Places,
+}
+
+/// Where a rule stands in the text.
+pub struct Places {
+    /// Its first word.
+    pub first: usize,
+    /// Its pattern, from the opening quote where quoted.
+    pub pattern: usize,
+    /// The pattern's bytes, its quotes aside.
+    pub written: Vec<u8>,
+    /// What follows its comma.
+    pub end: usize,
 }
 
 pub struct Profile {
     pub name: Vec<u8>,
     pub rules: Vec<Rule>,
+}
+
+impl File {
+    /// The rules of all profiles in the text's order, each with its profile.
+    pub fn all_rules(&self) -> impl Iterator<Item = (&Profile, &Rule)> {
+        let profiles = self.profiles.iter();
+        profiles.flat_map(|profile| profile.rules.iter().map(move |rule| (profile, rule)))
+    }
 }
 
 #[derive(Default)]
@@ -129,6 +150,15 @@ fn is_blank_in_line(byte: u8) -> bool {
     matches!(byte, b' ' | b'\t' | b'\r')
 }
 
+/// "A line is 1 plus the LFs before the token"; the column is the "bytes
+/// since the last LF before the token's first byte, counted from 1; at the
+/// text's end, one past the last byte of that line".
+pub fn line_and_column(text: &[u8], at: usize) -> (u32, u32) {
+    let lines: Vec<&[u8]> = text[..at].split(|b| *b == b'\n').collect();
+    let column = 1 + lines[lines.len() - 1].len();
+    (lines.len() as u32, column as u32)
+}
+
 impl<'a> Reader<'a> {
     fn rest(&self) -> &'a [u8] {
         &self.text[self.at..]
@@ -138,16 +168,12 @@ impl<'a> Reader<'a> {
         self.rest().starts_with(mark)
     }
 
-    /// "A line is 1 plus the LFs before the token"; the column is the "bytes
-    /// since the last LF before the token's first byte, counted from 1; at the
-    /// text's end, one past the last byte of that line".
     fn refuse<T>(&self, number: u8, at: usize) -> Result<T, Refusal> {
-        let before = self.text[..at].split(|b| *b == b'\n');
-        let lines: Vec<&[u8]> = before.collect();
+        let (line, column) = line_and_column(self.text, at);
         Err(Refusal {
             number,
-            line: lines.len() as u32,
-            column: 1 + lines[lines.len() - 1].len() as u32,
+            line,
+            column,
         })
     }
 
@@ -461,7 +487,7 @@ fn read_rule(reader: &mut Reader, file: &File) -> Result<Rule, Refusal> {
         take_word(reader, "allow")?;
     }
     let owner = take_word(reader, "owner")?;
-    let pattern = read_pattern(reader, file, reader.at != first_at)?;
+    let (token, pattern) = read_pattern(reader, file, reader.at != first_at)?;
     let (bits, mode) = read_perms(reader, deny)?;
     let target = read_target(reader, mode)?;
     reader.want()?;
@@ -469,6 +495,12 @@ fn read_rule(reader: &mut Reader, file: &File) -> Result<Rule, Refusal> {
         return reader.refuse(4, reader.at);
     }
     reader.at += 1;
+    let places = Places {
+        first: first_at,
+        pattern: token.at,
+        written: token.bytes.to_vec(),
+        end: reader.at,
+    };
     Ok(Rule {
         audit,
         deny,
@@ -476,6 +508,7 @@ fn read_rule(reader: &mut Reader, file: &File) -> Result<Rule, Refusal> {
         pattern,
         bits,
         transition: mode.map(|mode| Transition { mode, target }),
+        places,
     })
 }
 
@@ -490,7 +523,11 @@ fn take_word(reader: &mut Reader, word: &str) -> Result<bool, Refusal> {
 }
 
 /// The pattern, or 5 for a word that is not taken.
-fn read_pattern(reader: &mut Reader, file: &File, qualified: bool) -> Result<Vec<Item>, Refusal> {
+fn read_pattern<'a>(
+    reader: &mut Reader<'a>,
+    file: &File,
+    qualified: bool,
+) -> Result<(Token<'a>, Vec<Item>), Refusal> {
     refuse_words(reader)?;
     // "`profile` inside a profile [...] and a lone `{` after a qualifier"
     if reader.run(b",") == b"profile" || qualified && reader.run(b"") == b"{" {
@@ -514,7 +551,7 @@ fn read_pattern(reader: &mut Reader, file: &File, qualified: bool) -> Result<Vec
     if !pattern::all_begin_with_slash(&items, &file.variables) {
         return reader.refuse(7, token.at);
     }
-    Ok(items)
+    Ok((token, items))
 }
 
 /// The bits that the rule carries, and its mode.

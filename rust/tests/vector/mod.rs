@@ -2,7 +2,9 @@
 
 #![allow(dead_code)]
 
-use super::reference::{self, Answer, Execute, Refusal};
+use sidluqethe::Policy;
+
+use super::reference::{self, Answer, Asked, Execute, Judgement, Refusal};
 
 #[derive(Clone, Debug)]
 pub struct Request {
@@ -39,48 +41,68 @@ impl Request {
         format!("{text}\t{name}\t{path}\t{}\t{owner}", self.asked)
     }
 
+    pub fn judged(&self) -> Judgement {
+        let asked = Asked {
+            name: &self.name,
+            path: &self.path,
+            asked: self.asked,
+            owner: self.owner,
+        };
+        reference::judge(&self.text, asked)
+    }
+
     pub fn by_reference(&self) -> Result<Answer, Refusal> {
-        reference::decide(&self.text, &self.name, &self.path, self.asked, self.owner)
+        self.judged().answer
+    }
+
+    /// The request alone, as the package takes it.
+    pub fn asked(&self) -> sidluqethe::Request<'_> {
+        let asked = sidluqethe::Perms::from_bits(self.asked);
+        sidluqethe::Request::new(&self.name, &self.path, asked).owner(self.owner)
     }
 
     /// The fields from 6 of the library's answer.
     pub fn by_library(&self) -> String {
-        let asked = sidluqethe::Perms(self.asked);
-        given(sidluqethe::decide(
-            &self.text, &self.name, &self.path, asked, self.owner,
-        ))
+        given(sidluqethe::decide(&self.text, &self.asked()))
     }
 
-    /// The same by reading and asking, in the order of one request: what is
-    /// wrong with the request comes before what is wrong with the text.
-    pub fn by_policy(&self) -> String {
-        let asked = sidluqethe::Perms(self.asked);
-        let request = sidluqethe::Request::new(&self.name, &self.path, asked).owner(self.owner);
-        let policy = match sidluqethe::Policy::read(&self.text[..]) {
-            Ok(policy) => policy,
-            Err(refusal) if refusal.number == 1 => return given(Err(refusal)),
-            Err(refusal) => {
-                let empty = sidluqethe::Policy::read("").expect("an empty text");
-                return match empty.ask(&request) {
-                    Err(other) if other.number < 4 => given(Err(other)),
-                    _ => given(Err(refusal)),
-                };
-            }
+    pub fn read(&self) -> Result<Policy, sidluqethe::Refusal> {
+        Policy::read(&self.text[..])
+    }
+
+    /// The same of what was read, in the order of one request: what is wrong
+    /// with the request comes before what is wrong with the text.
+    pub fn by_policy(&self, read: &Result<Policy, sidluqethe::Refusal>) -> String {
+        let request = self.asked();
+        let refusal = match read {
+            Ok(policy) => return given(policy.ask(&request)),
+            Err(refusal) => *refusal,
         };
-        given(policy.ask(&request))
+        let empty = Policy::read("").expect("an empty text");
+        match empty.ask(&request) {
+            Err(other) if refusal.number() != 1 && other.number() < 4 => given(Err(other)),
+            _ => given(Err(refusal)),
+        }
     }
 }
 
 /// The fields from 6 of the library's answer.
 fn given(answer: Result<sidluqethe::Answer, sidluqethe::Refusal>) -> String {
     match answer {
-        Err(refusal) => refused(refusal.number, refusal.line, refusal.column),
+        Err(refusal) => refused(refusal.number(), refusal.line, refusal.column),
         Ok(answer) => answered(
-            answer.granted.0,
-            answer.recorded.0,
-            &answer.execute.to_string(),
+            answer.granted.bits(),
+            answer.recorded.bits(),
+            &execute(answer.execute),
             answer.target.as_deref(),
         ),
+    }
+}
+
+fn execute(execute: sidluqethe::Execute) -> String {
+    match execute {
+        sidluqethe::Execute::NotAsked => "-".into(),
+        other => other.to_string(),
     }
 }
 
@@ -126,7 +148,7 @@ fn from_hex(digits: &str) -> Result<Vec<u8>, String> {
     };
     let bytes: Option<_> = digits.as_bytes().chunks(2).map(value).collect();
     match bytes {
-        Some(bytes) if digits.len().is_multiple_of(2) => Ok(bytes),
+        Some(bytes) if digits.len() % 2 == 0 => Ok(bytes),
         _ => Err(format!("not hex: {digits}")),
     }
 }

@@ -1,0 +1,4 @@
+profile step {
+  /data/** r,
+  /bin/* rx,
+}

@@ -1,0 +1,3 @@
+profile step {
+  /data/x q, # [2Kgranted   readâ€®ÿ
+}

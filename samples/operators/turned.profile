@@ -1,0 +1,3 @@
+profile step {
+  r /data/**,
+}

@@ -1,0 +1,6 @@
+profile step {
+  /data/** r,
+}
+profile step {
+  /bin/cat ix,
+}

@@ -1,0 +1,4 @@
+@{RUN}=/runs/a/ /runs/b/
+profile step {
+  @{RUNS}in/* r,
+}
