@@ -2,7 +2,7 @@
 use Prim.Native.Nat.{ℕ}
 use mathlib.Core.Path.{_≡_, sym, _∙_, subst, subst₂}
 use mathlib.Core.List.{List, List·Memᴰ}
-use mathlib.Core.Bool.{Bool}
+use mathlib.Core.Bool.{Bool, true, false}
 use Rattle.family.specs.Families.{SameRules, Added}
 use Rattle.profile.specs.Profiles.{Profile, File}
 use Rattle.findings.specs.Findings.{allows, denies, Equal}
@@ -12,8 +12,10 @@ use Rattle.entries.specs.Entries.{Policy}
 use Rattle.asking.specs.Asking.{askedOf}
 use Rattle.laws.specs.Asked.{findingsOf, Given}
 use Rattle.laws.specs.Orders.{Accepted, SameButRules, NoMore, NoLess}
+use Rattle.laws.specs.Written.{WrittenProfile, WrittenFile, AcceptedAs, SameWritten, AddedWritten, SameButWritten}
 use Rattle.laws.proofs.Texts as texts
 use Rattle.laws.proofs.Orders as orders
+use Rattle.laws.proofs.Tokens as tokens
 use Rattle.agreement.specs.Known.{Known}
 use Rattle.agreement.proofs.Agreement.{read-answers}
 
@@ -52,3 +54,18 @@ module _ (s t : List ℕ) (u v : Policy) (k : Known s u) (l : Known t v) (name p
     pub other-profiles : (p q : Profile) → f .preamble ≡ g .preamble → List·Memᴰ p (f .profiles) → List·Memᴰ q (g .profiles) → p .name ≡ name → q .name ≡ name
         → SameRules (p .rules) (q .rules) → askedOf s u name path asked owner ≡ askedOf t v name path asked owner
     other-profiles p q same m n d e rules = over (λ x y. x ≡ y) (orders.other-profiles s t name path asked owner f g p q a b same m n d e rules)
+
+  -- the same of rules as they are written, token by token
+  module _ (f g : WrittenFile) (a : AcceptedAs s f) (b : AcceptedAs t g) where
+    pub any-order-written : SameButWritten SameWritten f g → askedOf s u name path asked owner ≡ askedOf t v name path asked owner
+    any-order-written h = over (λ x y. x ≡ y) (tokens.any-order-written s t name path asked owner f g a b h)
+
+    pub deny-added-written : SameButWritten (AddedWritten true) f g → NoMore (askedOf s u name path asked owner) (askedOf t v name path asked owner)
+    deny-added-written h = over NoMore (tokens.deny-added-written s t name path asked owner f g a b h)
+
+    pub allow-added-written : SameButWritten (AddedWritten false) f g → NoLess (askedOf s u name path asked owner) (askedOf t v name path asked owner)
+    allow-added-written h = over NoLess (tokens.allow-added-written s t name path asked owner f g a b h)
+
+    pub other-profiles-written : (p q : WrittenProfile) → f .preamble ≡ g .preamble → List·Memᴰ p (f .profiles) → List·Memᴰ q (g .profiles) → p .name ≡ name → q .name ≡ name
+        → SameWritten (p .rules) (q .rules) → askedOf s u name path asked owner ≡ askedOf t v name path asked owner
+    other-profiles-written p q same m n d e rules = over (λ x y. x ≡ y) (tokens.other-profiles-written s t name path asked owner f g a b p q same m n d e rules)
