@@ -1,6 +1,6 @@
 -- Where no choice of a pattern's first item may begin the path, no expansion matches it.
 use mathlib.Core.Path.{_≡_, refl, sym, ap, ap₂, _∙_}
-use mathlib.Core.List.{List, [], _∷_, _++_, map}
+use mathlib.Core.List.{List, [], _∷_, _++_, map, map-append, map-map}
 use mathlib.Core.Bool.{Bool, true, false, _&&_, _||_, false≢true}
 use Prim.Native.Nat.{ℕ, _≤_}
 use native.Mathlib.Omega.{arith}
@@ -21,17 +21,7 @@ use Rattle.front.specs.Front.{beginning, frontAfter, slashAfter, someAfter, exa
 use Rattle.front.proofs.Laws.{across-one, keptAfter, kept-front, plain-expansions, each, each-literal, every-literal}
 use Rattle.choices.specs.Choices.{valuesIn, leadsOn, someLeads, opensItem, opens}
 
--- ---- Bool
-
 -- ---- each of some expansions before each of others
-
-map-append : {A B : Type 0} (f : A → B) (xs ys : List A) → map f (xs ++ ys) ≡ map f xs ++ map f ys
-map-append f [] ys = refl
-map-append f (x ∷ xs) ys = ap (λ (l : List _). f x ∷ l) (map-append f xs ys)
-
-map-map : {A B C : Type 0} (f : A → B) (g : B → C) (xs : List A) → map g (map f xs) ≡ map (λ x. g (f x)) xs
-map-map f g [] = refl
-map-map f g (x ∷ xs) = ap (λ (l : List _). g (f x) ∷ l) (map-map f g xs)
 
 -- a piece before each of the first
 across-piece : (p : Piece) (xs ts : List (List Piece)) → across (map (λ x. p ∷ x) xs) ts ≡ map (λ x. p ∷ x) (across xs ts)
@@ -39,7 +29,7 @@ unfolding across
 across-piece p xs [] = refl
 across-piece p xs (t ∷ ts) =
     ap₂ (λ (a b : List (List Piece)). a ++ b)
-    (map-map (λ x. p ∷ x) (λ x. x ++ t) xs ∙ sym (map-map (λ x. x ++ t) (λ x. p ∷ x) xs))
+    (map-map (λ x. x ++ t) (λ x. p ∷ x) xs ∙ sym (map-map (λ x. p ∷ x) (λ x. x ++ t) xs))
     (across-piece p xs ts)
     ∙ sym (map-append (λ x. p ∷ x) (map (λ x. x ++ t) xs) (across xs ts))
 

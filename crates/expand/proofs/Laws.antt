@@ -2,7 +2,7 @@
 use Prim.Native.Nat.{ℕ, zero, suc, _+_, _*_, _-_, _≤_, _<_, min}
 use Prim.Native.Char.{code}
 use mathlib.Core.Path.{_≡_, refl, sym, ap, ap₂, _∙_}
-use mathlib.Core.List.{List, [], _∷_, _++_, map, append-assoc, append-nil}
+use mathlib.Core.List.{List, [], _∷_, _++_, map, append-assoc, append-nil, map-append}
 use mathlib.Core.Bool.{Bool, true, false, _&&_}
 use lib.ListN.{length, getD, take, drop, length-append, length-map, length-take, set, length-set}
 use lib.Seq.{take-suc-set, take-all, take-at, drop-cons, drop-drop}
@@ -59,10 +59,6 @@ module _ (text : List ℕ) where
         all = q .all ∙ rw (p .size, p .all, take-more (length out) (map (decode text) (take m out) ++ xs) ys, append-assoc);
       }
 
-  map-snoc : (a : List ℕ) (x : ℕ) → map (decode text) (a ++ (x ∷ [])) ≡ map (decode text) a ++ (decode text x ∷ [])
-  map-snoc [] x = refl
-  map-snoc (y ∷ a) x = ap (λ (l : List Piece). decode text y ∷ l) (map-snoc a x)
-
   length-front : (out : List ℕ) (m : ℕ) → m ≤ length out → length (map (decode text) (take m out)) ≡ m
   length-front out m h = rw length-map (omega (arith, length-take m out))
 
@@ -75,7 +71,7 @@ module _ (text : List ℕ) where
         fits = omega arith;
         all =
             rw (add-one, take-suc-set out m x h)
-            (map-snoc (take m out) x ∙ sym (take-all (length out) (map (decode text) (take m out) ++ (decode text x ∷ [])) z));
+            (map-append (decode text) (take m out) (x ∷ []) ∙ sym (take-all (length out) (map (decode text) (take m out) ++ (decode text x ∷ [])) z));
       }
 
   pub wrote-full : (out : List ℕ) (m : ℕ) (ys : List Piece) → length out ≤ m → m ≤ length out → Wrote text out m out m ys
