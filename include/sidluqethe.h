@@ -11,12 +11,13 @@
  *   (tools/stack.c), not proved.
  * - Cost: asking 10, 100 or 500 rules with plain patterns takes some 5,000, 7,000 or 16,000 instructions, reading 100 of them some
  *   500,000 (docs/FIGURES.md). Every call ends, but no bound on its time is promised: by those figures the worst pattern within
- *   all sizes takes more than an hour on the longest path. A caller who takes profiles from strangers has to limit the time from
- *   outside.
+ *   all sizes takes more than an hour on the longest path, and a text may hold 512 such patterns. A caller who takes profiles from
+ *   strangers has to limit the time from outside.
  * - Overlap: what a call writes, memory or buffer, may not overlap anything else that the call is given. What is only read may
  *   overlap, or be the same bytes.
  * - Null: no pointer may be null, even with length 0. Memory is aligned as uint64_t is; everything else may stand at any address.
  * - Lifetimes: no pointer is kept when a call returns. A text must stay as it is for as long as memory filled from it is asked.
+ * - Language: C99 or later, or C++.
  * - Architecture: x86-64 Linux, where a word of memory is 64 bits, lowest byte first. The code is position-independent.
  * - Backtraces: the code has no unwind tables, so a backtrace stops there. It calls nothing of the caller's and never throws.
  */
@@ -132,7 +133,7 @@ enum { SIDLUQETHE_STACK_BYTES = 49152 };
  *
  * The caller lends memory for what is read of a text: SIDLUQETHE_HEAD_WORDS words, and SIDLUQETHE_RULE_WORDS for each rule.
  * SIDLUQETHE_MEMORY_WORDS are enough for every text. The words are places in the text, counts and sets; they hold no pointers, so
- * memory may be moved and copied. Another version of the library may lay them out otherwise. Asking only reads them. */
+ * memory may be moved and copied. Another minor version may lay them out otherwise. Asking only reads them. */
 enum {
     SIDLUQETHE_HEAD_WORDS = 1256,
     SIDLUQETHE_RULE_WORDS = 12,
