@@ -26,7 +26,7 @@ ghost use Rattle.pattern.specs.Pieces.{Byte};
 ghost use Rattle.pattern.specs.Items.{alternatives};
 ghost use Rattle.pattern.specs.Places.{itemAt};
 ghost use Rattle.pattern.specs.Codes.{decode};
-ghost use Rattle.pattern.specs.Reads.{codeIn, seenPart};
+ghost use Rattle.pattern.specs.Reads.{codeIn, seenItem, seenPart};
 ghost use Rattle.pattern.specs.Table.{valuesOf};
 ghost use Rattle.sizes.specs.Numbered.{lowOf, highOf, partBy, valueBy, oneBy, itemBy, patternBy};
 ghost use Rattle.expand.specs.Write.{textFits, Asked, Wrote, Drafted};
@@ -225,7 +225,7 @@ fn write_value(
     w
 }
 
-// Expansion d of the item at a place of the span from a to e.
+// Expansion d of the item at a place of the span from a to e, as it was read.
 fn write_item(
     n: usize,
     text: &[u8],
@@ -234,14 +234,14 @@ fn write_item(
     a: usize,
     e: usize,
     at: usize,
+    i: ItemRead,
     d: usize,
     out: &mut [u32],
     m: usize,
 ) -> usize
-    requires { ⌜ Asked (now text) (now out) m ⌝ }
+    requires { ⌜ Asked (now text) (now out) m × (seenItem (now text) i ≡ itemAt (span (now text) a e) at) ⌝ }
     ensures { λ r. ⌜ Wrote (now (text .entry)) (now (out .entry)) m (now (out .exit)) r (itemBy (now (text .entry)) (now (vars .entry)) n (now (sizes .entry)) (itemAt (span (now (text .entry)) a e) at) .nth d) ⌝ }
 {
-    let i = item_at(text, a, e, at);
     match i {
         ItemRead::Single(_) => {
             let p = part_at(text, a, e, at);
@@ -292,7 +292,7 @@ pub fn write_pattern(
         let size = item_size(text, vars, n, sizes, i);
         let c = size.count;
         let from = w;
-        w = write_item(n, text, vars, sizes, a, e, at, low(left, c), out, w);
+        w = write_item(n, text, vars, sizes, a, e, at, i, low(left, c), out, w);
         let next = item_end(s, at);
         at = literal_end(s, next);
         w = push_run(out, w, s, next, at);

@@ -9,9 +9,6 @@ use borrow.Author.Needs.{needs}
 use Rattle.expand.proofs.write_item.Statement.{statement}
 use Rattle.expand.proofs.write_item.Tie as tie
 
-item-at-requires : tie.Need-item-at-requires
-item-at-requires c κs = search needs
-
 enum-told : tie.Need-enum-told
 enum-told c = search needs
 
@@ -19,7 +16,7 @@ part-at-requires : tie.Need-part-at-requires
 part-at-requires c κs = search needs
 
 write-part-requires : tie.Need-write-part-requires
-write-part-requires c κs = (c .before .before .before .before .before .before .before .before .pre, c .before .part-at .ensures .fits)
+write-part-requires c κs = (c .before .before .before .before .before .before .before .pre .0, c .before .part-at .ensures .fits)
 
 enum-known-i : tie.Need-enum-known-i
 enum-known-i c = search needs
@@ -28,20 +25,20 @@ pick-alternative-requires : tie.Need-pick-alternative-requires
 pick-alternative-requires c κs = search needs
 
 write-value-requires : tie.Need-write-value-requires
-write-value-requires c κs = search needs
+write-value-requires c κs = c .before .before .before .before .before .before .before .before .pre .0
 
 same-length : tie.Need-same-length
 same-length c = search needs
 
 returns : tie.Need-returns
 returns c =
-    let c-args = c .before .before .before .before .before .before .before .before .before .before .before .args in
-    let c-item-at = c .before .before .before .before .before .before .before .item-at in
+    let c-start = c .before .before .before .before .before .before .before .before .before .before in
     let c-part-at = c .before .before .before .before .part-at in
-    let text = now (c-args .text) in
-    let s = span text (c-args .a) (c-args .e) in
-    let read = item-read text s (c-args .at) (c-item-at .result) _ (c-item-at .ensures) (c .before .before .before .before .before .enum-told .given .1) in
-    let e : itemAt s (c-args .at) ≡ Single (seenPart text (c-part-at .result)) = item-single s (c-args .at) _ read ∙ ap Single (sym (c-part-at .ensures .is)) in
+    let text = now (c-start .args .text) in
+    let s = span text (c-start .args .a) (c-start .args .e) in
+    let at = c-start .args .at in
+    let read = item-read text s at (c-start .args .i) _ (c-start .pre .1) (c .before .before .before .before .before .enum-told .given .1) in
+    let e : itemAt s at ≡ Single (seenPart text (c-part-at .result)) = item-single s at _ read ∙ ap Single (sym (c-part-at .ensures .is)) in
     rw e (c .before .before .write-part .ensures)
 
 same-length-2 : tie.Need-same-length-2
@@ -49,17 +46,15 @@ same-length-2 c = search needs
 
 returns-2 : tie.Need-returns-2
 returns-2 c =
-    let c-args = c .before .before .before .before .before .before .before .before .before .before .before .before .args in
-    let c-item-at = c .before .before .before .before .before .before .before .before .item-at in
-    let text = now (c-args .text) in
-    rw (item-read text (span text (c-args .a) (c-args .e)) (c-args .at) (c-item-at .result) _ (c-item-at .ensures) (c .before .before .before .before .before .before .i .given .1), ← c .before .before .before .before .pick-alternative .ensures)
+    let c-start = c .before .before .before .before .before .before .before .before .before .before .before in
+    let text = now (c-start .args .text) in
+    rw (item-read text (span text (c-start .args .a) (c-start .args .e)) (c-start .args .at) (c-start .args .i) _ (c-start .pre .1) (c .before .before .before .before .before .before .i .given .1), ← c .before .before .before .before .pick-alternative .ensures)
     (c .before .before .write-value .ensures)
 
 pub write-item-spec : {M : Type 1} → statement M
 write-item-spec =
     tie.close
     (tie.spec
-    item-at-requires
     enum-told
     part-at-requires
     write-part-requires

@@ -55,7 +55,7 @@ low-requires c κs = search needs
 write-item-requires : tie.Need-write-item-requires Inv-loop μ-loop
 write-item-requires c κs =
     let c-loop = c .before .before .before .before .before .loop in
-    record { short = omega (arith, c .before .before .before .before .before .before .before .if1 .left); room = omega (arith, c-loop .inv .0 .wrote .size, c-loop .inv .0 .wrote .fits) }
+    (record { short = omega (arith, c .before .before .before .before .before .before .before .if1 .left); room = omega (arith, c-loop .inv .0 .wrote .size, c-loop .inv .0 .wrote .fits) }, c .before .before .before .item-at .ensures)
 
 item-end-requires : tie.Need-item-end-requires Inv-loop μ-loop
 item-end-requires c κs = search needs
