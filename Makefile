@@ -1,8 +1,10 @@
 # Builds, installs and tests the library and the command `sidluqethe`. GNU make.
 #
 #   make                            prove and build the library, then build the command: rust/target/release/sidluqethe
-#   make install PREFIX=/usr/local  install both, with the header, the pkg-config file and the manual page (DESTDIR= goes in front)
-#   make uninstall PREFIX=...       remove what install wrote
+#   make install PREFIX=/usr/local  install both, with the header, the pkg-config file and the manual page (DESTDIR= goes in front;
+#                                   BINDIR=, LIBDIR=, INCLUDEDIR= and MANDIR= are whole paths in the place of PREFIX/bin, /lib,
+#                                   /include and /share/man)
+#   make uninstall PREFIX=...       remove what install wrote; takes the same variables
 #   make check                      the whole gate, .ci/run
 #   make clean                      remove what was built, the proofs too
 #
@@ -44,9 +46,9 @@ target/archive-used: FORCE
 	@mkdir -p $(@D)
 	@echo $(archive) | cmp -s - $@ || echo $(archive) >$@
 
-$(shared): $(archive) target/archive-used packaging/sidluqethe.map
+$(shared): $(archive) target/archive-used packaging/sidluqethe.map Makefile
 	$(CC) $(LDFLAGS) -shared -Wl,-soname,libsidluqethe.so.$(interface) -Wl,--version-script=packaging/sidluqethe.map \
-	    -Wl,-z,defs -Wl,-z,relro -Wl,-z,now -o $@ -Wl,--whole-archive $(archive) -Wl,--no-whole-archive
+	    -Wl,-z,defs -Wl,-z,text -Wl,-z,relro -Wl,-z,now -o $@ -Wl,--whole-archive $(archive) -Wl,--no-whole-archive
 
 $(command): $(archive) target/archive-used $(wildcard rust/Cargo.* rust/*.rs) $(shell find rust/src -type f)
 	folder=$$(cd $(dir $(archive)) && pwd) && cd rust && \

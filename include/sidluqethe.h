@@ -325,8 +325,8 @@ static inline uint8_t sidluqethe_rule_execute(const uint64_t *memory, size_t rul
     const unsigned word = sidluqethe_rule_words(memory, rule)[SIDLUQETHE_RULE_AT_TRANSITION] & 63;
     const unsigned scrubs = word >> 1 & 1, kind = word >> 2 & 3, fallback = word >> 4;
     unsigned number = SIDLUQETHE_NOT_ASKED;
-    if (word != 0 && fallback == 0) number = SIDLUQETHE_UX + 2 * kind + scrubs;
-    if (word != 0 && fallback != 0) number = SIDLUQETHE_PIX + 4 * (fallback - 1) + 2 * (kind - 1) + scrubs;
+    if ((word & 1) != 0 && fallback == 0) number = SIDLUQETHE_UX + 2 * kind + scrubs;
+    if ((word & 1) != 0 && fallback != 0) number = SIDLUQETHE_PIX + 4 * (fallback - 1) + 2 * (kind - 1) + scrubs;
     return number & 31;
 }
 

@@ -88,6 +88,100 @@ static void refused(const char *front, size_t blanks, const char *back) {
            column[1], column[2], column[3]);
 }
 
+/* A pattern of bytes, and whether so many still hold it: what a call leaves alone is the same byte for byte. */
+static void put_pattern(void *at, size_t length) {
+    size_t i;
+    for (i = 0; i < length; i++) ((uint8_t *)at)[i] = (uint8_t)(151 * i + 7);
+}
+
+static int has_pattern(const void *at, size_t length) {
+    size_t i;
+    for (i = 0; i < length; i++)
+        if (((const uint8_t *)at)[i] != (uint8_t)(151 * i + 7)) return 0;
+    return 1;
+}
+
+/* Reads a text into so many words and bytes of rooms with a pattern, and shows what came back and which of them changed. */
+static void read_into(const char *of, size_t words, size_t bytes) {
+    static uint64_t room[SIDLUQETHE_MEMORY_WORDS];
+    uint8_t a[SIDLUQETHE_ANSWER_BYTES];
+    put_pattern(room, sizeof room);
+    put_pattern(a, sizeof a);
+    size_t n = sidluqethe_read((const uint8_t *)of, strlen(of), room, words, a, bytes);
+    printf("%zu: memory %s, buffer %s\n", n, has_pattern(room, sizeof room) ? "as found" : "filled",
+           has_pattern(a, sizeof a) ? "as found" : "filled");
+}
+
+/* Memory one word short, a buffer one byte short, nothing at all; then a text that is refused behind all its rules, and text T. */
+static void read_short(void) {
+    static char cut[sizeof text];
+    memcpy(cut, text, sizeof text);
+    cut[strlen(text) - 2] = '{';
+    read_into(text, SIDLUQETHE_HEAD_WORDS - 1, SIDLUQETHE_ANSWER_BYTES);
+    read_into(text, SIDLUQETHE_MEMORY_WORDS, SIDLUQETHE_ANSWER_BYTES - 1);
+    read_into(text, 0, 0);
+    read_into(cut, SIDLUQETHE_MEMORY_WORDS, SIDLUQETHE_ANSWER_BYTES);
+    read_into(text, SIDLUQETHE_MEMORY_WORDS, SIDLUQETHE_ANSWER_BYTES);
+}
+
+/* The answer that text T gives with any words, as the owner of the file. */
+static sidluqethe_answer ask_words(const uint64_t *words, size_t count, const char *name, const char *path, uint8_t asked) {
+    sidluqethe_answer a;
+    put_pattern(&a, sizeof a);
+    size_t n = sidluqethe_ask((const uint8_t *)text, strlen(text), words, count, (const uint8_t *)name, strlen(name),
+                              (const uint8_t *)path, strlen(path), asked, 1, &a, sizeof a);
+    if (n != sizeof a) printf("no answer: ");
+    return a;
+}
+
+/* Asks the first words alone of what text T filled. Below the number of profiles there are none; below the first rule nothing is
+ * granted. Shows how many asks went otherwise, and what the first words with one rule grant. */
+static void ask_short(void) {
+    size_t words, otherwise = 0;
+    for (words = 0; words < SIDLUQETHE_HEAD_WORDS; words++) {
+        const sidluqethe_answer a = ask_words(memory, words, "step", "/runs/a/in/x", SIDLUQETHE_READ);
+        const uint8_t refusal = words <= SIDLUQETHE_AT_PROFILE_COUNT ? SIDLUQETHE_NO_PROFILE : 0;
+        otherwise += a.refusal != refusal || a.granted != 0;
+    }
+    words = SIDLUQETHE_HEAD_WORDS + SIDLUQETHE_RULE_WORDS;
+    printf("%zu %u\n", otherwise, ask_words(memory, words, "step", "/runs/a/in/x", SIDLUQETHE_READ).granted);
+}
+
+/* How many answers with these words, which text T has not filled, are none: a refusal that there is not, or more than was asked. */
+static size_t no_answers(const uint64_t *words) {
+    static const char *const names[] = {"step", "", "tool"}, *const paths[] = {"/bin/ls", "/runs/a/out/lock", "/"};
+    size_t i, rule, none = 0;
+    for (i = 0; i < 9 * 127; i++) {
+        const uint8_t asked = (uint8_t)(i / 9 + 1);
+        const sidluqethe_answer a = ask_words(words, SIDLUQETHE_MEMORY_WORDS, names[i % 3], paths[i / 3 % 3], asked);
+        none += a.refusal > SIDLUQETHE_NO_PROFILE || (a.granted & ~asked) != 0 || a.execute > SIDLUQETHE_CUX_SCRUB;
+    }
+    for (rule = 0; rule <= SIDLUQETHE_RULES; rule++)
+        none += sidluqethe_match((const uint8_t *)text, strlen(text), words, SIDLUQETHE_MEMORY_WORDS, (const uint8_t *)"step", 4,
+                                 (const uint8_t *)"/bin/ls", 7, 1, rule)
+                > SIDLUQETHE_EXACT_MATCH;
+    return none;
+}
+
+/* Words of all zeros, of all ones, of a pattern, and those of another text, whose profile stands where that of T does. */
+static void ask_junk(void) {
+    static const char other[] = "@{RUN}=/runs/a/ /runs/b/\n"
+                                "profile step {\n"
+                                "  /** rwmlk, /* ux, deny /b x, /bin/{ls,cat} Px -> a_rather_long_name_of_a_target, owner /r* a,\n"
+                                "  /aaaaaaaaaaaaaaaaaaaaaaaaaaaaaaaaaaaaaaaaaaaaaaaaaaaaaaaaaaaaaaaaaaaaaaaaaaaaaaaaaaaaaaaaaaaaaaa r,\n"
+                                "}\n";
+    static uint64_t words[SIDLUQETHE_MEMORY_WORDS];
+    sidluqethe_answer answer;
+    memset(words, 0, sizeof words);
+    printf("%zu", no_answers(words));
+    memset(words, 255, sizeof words);
+    printf(" %zu", no_answers(words));
+    put_pattern(words, sizeof words);
+    printf(" %zu", no_answers(words));
+    sidluqethe_read((const uint8_t *)other, strlen(other), words, SIDLUQETHE_MEMORY_WORDS, &answer, sizeof answer);
+    printf(" %zu of %zu rules\n", no_answers(words), sidluqethe_rule_count(words));
+}
+
 /* How each of the text's rules matches a path, and one past the last. */
 static void match(const char *name, const char *path, uint8_t owner) {
     size_t rule;
@@ -147,6 +241,17 @@ static void show_others(void) {
     show(other, words);
 }
 
+/* How many words without the lowest bit are read as a transition: the library goes by that bit. */
+static void no_transitions(void) {
+    static uint64_t words[SIDLUQETHE_HEAD_WORDS + SIDLUQETHE_RULE_WORDS];
+    unsigned word, read = 0;
+    for (word = 0; word < 64; word += 2) {
+        words[SIDLUQETHE_AT_RULES + SIDLUQETHE_RULE_AT_TRANSITION] = word;
+        read += sidluqethe_rule_execute(words, 0) != SIDLUQETHE_NOT_ASKED;
+    }
+    printf("%u\n", read);
+}
+
 /* The names of all numbers, and of one too many; and what grants nothing. */
 static void names(void) {
     sidluqethe_answer nothing;
@@ -161,10 +266,8 @@ static void names(void) {
     printf(" %d\n", sidluqethe_grants(&nothing, SIDLUQETHE_READ));
 }
 
-int main(void) {
-    uint8_t less[SIDLUQETHE_ANSWER_BYTES - 1], whole[SIDLUQETHE_ANSWER_BYTES];
-    size_t n = sidluqethe_read((const uint8_t *)text, strlen(text), memory, SIDLUQETHE_MEMORY_WORDS, whole, sizeof whole);
-    printf("%zu %u\n", n, whole[SIDLUQETHE_AT_REFUSAL]);
+/* The marked cases, and a name that no profile has. */
+static void ask_all(void) {
     ask("step", "/runs/a/in/x", 1, 0);
     ask("step", "/runs/c/in/x", 1, 0);
     ask("step", "/runs/a/in/d/x", 1, 0);
@@ -176,6 +279,13 @@ int main(void) {
     ask("step", "/bin/ls", 64, 0);
     ask("step", "/bin/cat", 65, 0);
     ask("other", "/bin/cat", 64, 0);
+}
+
+int main(void) {
+    uint8_t less[SIDLUQETHE_ANSWER_BYTES - 1], whole[SIDLUQETHE_ANSWER_BYTES];
+    size_t n = sidluqethe_read((const uint8_t *)text, strlen(text), memory, SIDLUQETHE_MEMORY_WORDS, whole, sizeof whole);
+    printf("%zu %u\n", n, whole[SIDLUQETHE_AT_REFUSAL]);
+    ask_all();
     memset(less, 7, sizeof less);
     n = sidluqethe_decide((const uint8_t *)text, strlen(text), (const uint8_t *)"step", 4, (const uint8_t *)"/bin/ls", 7, 64, 0, less,
                           sizeof less);
@@ -186,11 +296,13 @@ int main(void) {
     read_within(512);
     refused("profile step {\n", 1000, "/b{ r, }");
     refused("profile step {", 65521, "");
-    printf("%zu %zu\n", sidluqethe_read((const uint8_t *)text, strlen(text), memory, SIDLUQETHE_HEAD_WORDS - 1, whole, sizeof whole),
-           sidluqethe_read((const uint8_t *)text, strlen(text), memory, SIDLUQETHE_MEMORY_WORDS, less, sizeof less));
+    read_short();
+    ask_short();
+    ask_junk();
     match_all();
     show(text, memory);
     show_others();
+    no_transitions();
     names();
     printf("%d\n", sidluqethe_version() == SIDLUQETHE_VERSION);
     return 0;

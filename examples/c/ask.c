@@ -159,7 +159,8 @@ int main(int count, char **words) {
     sidluqethe_answer answer;
     struct request request;
     const int owner = count == 6 && strcmp(words[5], "--owner") == 0;
-    if (sidluqethe_version() != SIDLUQETHE_VERSION) {
+    /* A patch is taken as it comes. With a new minor version the words of memory may change, which the header's readers go by. */
+    if (sidluqethe_version() / 100 != SIDLUQETHE_VERSION / 100) {
         fprintf(stderr, "ask: the library is of version %lu, the header of %d\n", (unsigned long)sidluqethe_version(),
                 SIDLUQETHE_VERSION);
         return BAD_CALL;

@@ -59,9 +59,10 @@ pub struct Answer {
 }
 
 impl Answer {
-    /// Whether all of these permissions are granted.
+    /// Whether all of these permissions are granted. Asking for nothing is
+    /// refused, so nothing is never granted.
     pub const fn grants(&self, asked: Perms) -> bool {
-        self.granted.contains(asked)
+        !asked.is_empty() && self.granted.contains(asked)
     }
 
     /// The answer as the program `cases` writes it: granted and recorded as

@@ -80,7 +80,10 @@ impl Mode {
     /// The mode of a rule's transition, as its record has it: 0 for none, else
     /// 1 + 2 * scrubs + 4 * kind + 16 * fallback.
     pub(crate) fn of_transition(number: u64) -> Option<Mode> {
-        let number = number.checked_sub(1)?;
+        // The library goes by this bit, whatever the others are.
+        if number & 1 == 0 {
+            return None;
+        }
         let kind = match number >> 2 & 3 {
             0 => Kind::Unconfined,
             1 => Kind::Profile,
@@ -137,7 +140,10 @@ mod tests {
             let mode = Mode::of_transition(number).unwrap();
             assert_eq!(mode.to_string(), written);
         }
-        assert_eq!(Mode::of_transition(0), None);
+        // The lowest bit says whether there is one, as in the library.
+        for number in [0, 2, 12, 42] {
+            assert_eq!(Mode::of_transition(number), None);
+        }
         assert_eq!(Mode::of_transition(43).unwrap().to_string(), "CUx");
     }
 

@@ -63,7 +63,8 @@ impl Policy {
         Ok(Policy { text, memory })
     }
 
-    /// Judges one request.
+    /// Judges one request. It allocates nothing but the bytes of a target,
+    /// where the answer has one.
     ///
     /// # Errors
     ///

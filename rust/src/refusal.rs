@@ -43,8 +43,9 @@ pub enum Reason {
 }
 
 impl Reason {
-    /// All reasons, in the order of their numbers.
-    pub const ALL: [Reason; 11] = [
+    /// All reasons, in the order of their numbers. Later versions may have
+    /// more.
+    pub const ALL: &'static [Reason] = &[
         Reason::LongText,
         Reason::BadPath,
         Reason::BadAsked,
@@ -65,9 +66,12 @@ impl Reason {
 
     /// The reason of this number.
     pub const fn from_number(number: u8) -> Option<Reason> {
-        match number {
-            1..=11 => Some(Reason::ALL[number as usize - 1]),
-            _ => None,
+        // 0 wraps to a place that is never reached.
+        let place = number.wrapping_sub(1) as usize;
+        if place < Reason::ALL.len() {
+            Some(Reason::ALL[place])
+        } else {
+            None
         }
     }
 

@@ -1,4 +1,4 @@
-//! Reading once and asking often: every room, two threads, another text.
+//! Reading once and asking often: every room, two threads, two texts.
 
 use sidluqethe::{decide, Perms, Policy, Request};
 use std::thread;
@@ -45,6 +45,19 @@ fn room_for_fewer_rules_is_told_at_the_first_that_finds_none() {
     assert!(Policy::read_within("/p { }", 0).is_ok());
 }
 
+/// Nothing can't be asked for, so an answer never grants it.
+#[test]
+fn nothing_is_never_granted() {
+    let policy = Policy::read(TEXT).unwrap();
+    let request = Request::new("one", "/a/x", Perms::READ);
+    let answer = policy.ask(&request).unwrap();
+    assert!(answer.grants(Perms::READ));
+    assert!(!answer.grants(Perms::READ | Perms::WRITE));
+    assert!(!answer.grants(Perms::NONE));
+    let none = policy.ask(&Request::new("one", "/c/x", Perms::READ));
+    assert!(!none.unwrap().grants(Perms::NONE));
+}
+
 #[test]
 fn the_owner_mark_counts() {
     let policy = Policy::read("/p { owner /a r, }").unwrap();
@@ -68,6 +81,43 @@ fn refusals_come_in_their_order() {
     assert_eq!(number(b"x", b"/a", 0), 3);
     assert_eq!(number(b"x", b"/a", 1), 11);
     assert_eq!(Policy::read(vec![b'#'; 65_536]).unwrap_err().number(), 1);
+}
+
+/// Of the same form, so that every place of one is a place of the other.
+const OTHER: &str = "@{A}=/c /d
+profile one {
+  @{A}/* w,
+  deny /b/x x,
+}
+/two { /bin/dog ux, }
+";
+
+/// A policy owns its text: what was read of another plays no part.
+#[test]
+fn each_policy_answers_by_its_own_text() {
+    let policies = [TEXT, OTHER].map(|text| Policy::read(text).unwrap());
+    let all = Perms::from_bits(127);
+    let fields = |policy: &Policy, name: &str, path: &str| {
+        let answer = policy.ask(&Request::new(name, path, all)).unwrap();
+        let granted = answer.granted.to_string();
+        let rules = policy.matching(&Request::new(name, path, all)).unwrap();
+        (granted, rules.len())
+    };
+    for (name, path, first, second) in [
+        ("one", "/a/x", ("r", 1), ("-", 0)),
+        ("one", "/c/x", ("-", 0), ("wa", 1)),
+        ("one", "/b/x", ("-", 2), ("-", 1)),
+        ("/two", "/bin/cat", ("x", 1), ("-", 0)),
+        ("/two", "/bin/dog", ("-", 0), ("x", 1)),
+    ] {
+        for (policy, (granted, rules)) in policies.iter().zip([first, second]) {
+            let wanted = (granted.to_string(), rules);
+            assert_eq!(fields(policy, name, path), wanted, "{path}");
+            assert_eq!(fields(&policy.clone(), name, path), wanted, "{path}");
+        }
+    }
+    assert_eq!(policies[0].text(), TEXT.as_bytes());
+    assert_eq!(policies[1].text(), OTHER.as_bytes());
 }
 
 /// What threads may share and hand on.

@@ -4,9 +4,16 @@
 use sidluqethe::{decide, Perms, Policy, Reason, Refusal, Request};
 use std::collections::HashSet;
 
+/// Their type does not name their number, so that more may come.
+const ALL: &[Reason] = Reason::ALL;
+
+/// Numbers are turned into reasons before a program runs as well.
+const EIGHTH: Option<Reason> = Reason::from_number(8);
+
 #[test]
 fn reasons_and_numbers_go_together() {
-    for (number, reason) in (1..).zip(Reason::ALL) {
+    assert_eq!((ALL.len(), EIGHTH), (11, Some(Reason::BadPermissions)));
+    for (number, &reason) in (1..).zip(ALL) {
         assert_eq!(reason.number(), number);
         assert_eq!(Reason::from_number(number), Some(reason));
         assert_eq!(reason as u8, number);
@@ -15,13 +22,13 @@ fn reasons_and_numbers_go_together() {
     for number in (0..=255).filter(|number| !(1..=11).contains(number)) {
         assert_eq!(Reason::from_number(number), None);
     }
-    let meanings: HashSet<&str> = Reason::ALL.iter().map(|reason| reason.meaning()).collect();
+    let meanings: HashSet<&str> = ALL.iter().map(|reason| reason.meaning()).collect();
     assert_eq!(meanings.len(), 11);
 }
 
 #[test]
 fn meanings_are_those_of_the_rules() {
-    let meanings = Reason::ALL.map(Reason::meaning);
+    let meanings: Vec<&str> = ALL.iter().map(|reason| reason.meaning()).collect();
     assert_eq!(
         meanings,
         [

@@ -1,5 +1,8 @@
 //! Asks a profile file for permissions and names the rules that made the
 //! answer: `ask-once FILE PROFILE PATH PERMS`.
+//!
+//! Exit status: 0 everything asked is granted, 1 something asked is refused,
+//! 2 the text or the call is refused, or the file can't be read.
 
 use sidluqethe::{Match, Policy, Request, Rule};
 use std::env;

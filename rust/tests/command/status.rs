@@ -65,9 +65,10 @@ fn a_refused_request_is_2() {
 #[test]
 fn a_wrong_call_is_2() {
     let file = sample("step.profile");
-    let calls: [&[&str]; 12] = [
+    let calls: [&[&str]; 13] = [
         &[],
         &["aks"],
+        &["help", "me"],
         &["ask"],
         &["ask", &file, "step", "/x"],
         &["ask", &file, "step", "/x", "r", "owner"],
@@ -80,14 +81,77 @@ fn a_wrong_call_is_2() {
         &["explain", "12"],
     ];
     for words in calls {
-        let ran = run(words);
-        assert_eq!((ran.status, ran.out.as_str()), (2, ""), "{words:?}");
-        let lines: Vec<&str> = ran.err.lines().collect();
-        let [wrong, call] = lines[..] else {
-            panic!("two lines: {:?}", ran.err);
-        };
-        assert!(wrong.starts_with("sidluqethe: "), "{wrong}");
-        assert!(call.starts_with("call: sidluqethe "), "{call}");
+        is_a_wrong_call(words);
+    }
+}
+
+/// Two lines on standard error, nothing on standard output.
+fn is_a_wrong_call(words: &[&str]) {
+    let ran = run(words);
+    assert_eq!((ran.status, ran.out.as_str()), (2, ""), "{words:?}");
+    let lines: Vec<&str> = ran.err.lines().collect();
+    let [wrong, call] = lines[..] else {
+        panic!("two lines: {:?}", ran.err);
+    };
+    assert!(wrong.starts_with("sidluqethe: "), "{wrong}");
+    assert!(call.starts_with("call: sidluqethe "), "{call}");
+}
+
+/// What a word from elsewhere could be, to change what is asked.
+const OPTIONS: [&str; 7] = ["-h", "--help", "-V", "--version", "--json", "--owner", "--"];
+
+/// Whatever the four words are: one that is an option leaves fewer.
+#[test]
+fn a_word_of_ask_that_is_an_option_grants_nothing() {
+    let file = sample("step.profile");
+    let words = ["ask", &file, "step", "/runs/a/in/x", "r"];
+    assert_eq!(run(&words).status, 0);
+    for option in OPTIONS {
+        for at in 1..5 {
+            let mut words = words;
+            words[at] = option;
+            is_a_wrong_call(&words);
+            // What the caller adds may not fill the gap.
+            for added in ["--owner", "--json"] {
+                is_a_wrong_call(&[&words[..], &[added]].concat());
+                is_a_wrong_call(&[&["ask", added], &words[1..]].concat());
+            }
+        }
+        is_a_wrong_call(&["ask", option, option, option, option]);
+        is_a_wrong_call(&["ask", "--json", "--owner", "--", option]);
+    }
+}
+
+#[test]
+fn words_behind_two_dashes_are_no_options() {
+    let file = sample("step.profile");
+    for option in OPTIONS {
+        let ran = run(&["ask", "--", &file, "step", option, "r"]);
+        assert_eq!((ran.status, ran.out.as_str()), (2, ""), "{option}");
+        assert!(ran.err.contains("refused 2"), "{}", ran.err);
+        let ran = run(&["ask", "--", &file, option, "/runs/a/in/x", "r"]);
+        assert!(ran.err.contains("refused 11"), "{}", ran.err);
+        let ran = run(&["ask", "--", option, "step", "/runs/a/in/x", "r"]);
+        assert_eq!(ran.status, 3, "{option}");
+        is_a_wrong_call(&["ask", "--", &file, "step", "/runs/a/in/x", option]);
+    }
+}
+
+/// `check FILE` and `explain N` have one word, which may come from elsewhere.
+#[test]
+fn a_file_is_not_accepted_by_help() {
+    let file = sample("step.profile");
+    for option in &OPTIONS[..4] {
+        is_a_wrong_call(&["check", option]);
+        is_a_wrong_call(&["check", &file, option]);
+        is_a_wrong_call(&["check", option, &file]);
+        is_a_wrong_call(&["explain", option]);
+        is_a_wrong_call(&["explain", "4", option]);
+        is_a_wrong_call(&[option, "check", &file]);
+        is_a_wrong_call(&[option, "--json"]);
+    }
+    for option in OPTIONS {
+        is_a_wrong_call(&["check", option]);
     }
 }
 
@@ -138,7 +202,7 @@ fn help_and_version_are_0() {
         &["-h"],
         &["help"],
         &["ask", "--help"],
-        &["-h", "x"],
+        &["ask", "-h"],
     ];
     for words in ways {
         let ran = run(words);

@@ -51,19 +51,14 @@ struct Parts {
     words: Vec<Vec<u8>>,
     owner: bool,
     json: bool,
-    help: bool,
-    version: bool,
 }
 
 /// Reads the arguments behind the program's name.
 pub fn parse(arguments: Vec<Vec<u8>>) -> Result<Call, Usage> {
+    if let Some(call) = about(&arguments) {
+        return Ok(call);
+    }
     let parts = parts(arguments)?;
-    if parts.help {
-        return Ok(Call::Help);
-    }
-    if parts.version {
-        return Ok(Call::Version);
-    }
     let mut words = parts.words.clone().into_iter();
     let Some(command) = words.next() else {
         return usage("no command is given", CALL);
@@ -73,8 +68,25 @@ pub fn parse(arguments: Vec<Vec<u8>>) -> Result<Call, Usage> {
         b"ask" => ask(words, &parts),
         b"check" => check(words, &parts),
         b"explain" => explain(words, &parts),
-        b"help" => Ok(Call::Help),
+        b"help" => usage("`help` stands alone", CALL),
         other => usage(format!("unknown command {}", quote(other)), CALL),
+    }
+}
+
+/// Help and version, whose status is that of a grant: they count only where
+/// no word from elsewhere can stand. `check` and `explain` take one word, so
+/// behind these it could be that word; `ask` takes four.
+fn about(arguments: &[Vec<u8>]) -> Option<Call> {
+    let word = match arguments {
+        [only] if only == b"help" => return Some(Call::Help),
+        [only] => only,
+        [command, only] if command == b"ask" => only,
+        _ => return None,
+    };
+    match word.as_slice() {
+        b"--help" | b"-h" => Some(Call::Help),
+        b"--version" | b"-V" => Some(Call::Version),
+        _ => None,
     }
 }
 
@@ -91,8 +103,10 @@ fn parts(arguments: Vec<Vec<u8>>) -> Result<Parts, Usage> {
             b"--" => ended = true,
             b"--owner" => parts.owner = true,
             b"--json" => parts.json = true,
-            b"--help" | b"-h" => parts.help = true,
-            b"--version" | b"-V" => parts.version = true,
+            b"--help" | b"-h" | b"--version" | b"-V" => {
+                let wrong = "`--help` and `--version` stand alone; `--` ends the options";
+                return usage(wrong, call_of(&parts.words));
+            }
             other => {
                 let wrong = format!("unknown option {}; `--` ends the options", quote(other));
                 return usage(wrong, call_of(&parts.words));
@@ -220,9 +234,34 @@ mod tests {
         assert!(ask.json && ask.owner);
         assert_eq!(ask.path, b"-x");
         assert_eq!(ask.asked, Perms::READ | Perms::WRITE);
-        assert_eq!(call("ask --help"), Ok(Call::Help));
-        assert_eq!(call("help me"), Ok(Call::Help));
-        assert_eq!(call("-V"), Ok(Call::Version));
+    }
+
+    #[test]
+    fn help_and_version_stand_alone() {
+        for line in ["--help", "-h", "help", "ask --help", "ask -h"] {
+            assert_eq!(call(line), Ok(Call::Help), "{line}");
+        }
+        for line in ["--version", "-V", "ask -V"] {
+            assert_eq!(call(line), Ok(Call::Version), "{line}");
+        }
+        let alone = "`--help` and `--version` stand alone; `--` ends the options";
+        for line in [
+            "ask f p -h r",
+            "ask -h -h -h -h",
+            "check --help",
+            "check f -V",
+            "explain -h",
+            "-h x",
+            "-h -V",
+            "--json --help",
+        ] {
+            assert_eq!(wrong(line), alone, "{line}");
+        }
+        assert_eq!(call("check f -h").unwrap_err().call, CHECK);
+        assert_eq!(wrong("help me"), "`help` stands alone");
+        assert_eq!(wrong("help --json"), "`help` stands alone");
+        assert!(wrong("-- --help").starts_with("unknown command"));
+        assert!(call("check -- --help").is_ok());
     }
 
     #[test]

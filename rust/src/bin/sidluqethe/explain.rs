@@ -129,7 +129,7 @@ mod tests {
 
     #[test]
     fn the_examples_are_refused_so() {
-        for reason in Reason::ALL {
+        for &reason in Reason::ALL {
             let example = entry(reason).example;
             if !matches!(reason.number(), 4..=10) {
                 assert!(example.starts_with("sidluqethe "));
@@ -142,7 +142,7 @@ mod tests {
 
     #[test]
     fn lines_fit_a_terminal() {
-        for reason in Reason::ALL {
+        for &reason in Reason::ALL {
             let words = words(reason);
             assert!(
                 words.lines().all(|line| line.chars().count() < 80),

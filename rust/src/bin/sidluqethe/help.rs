@@ -1,4 +1,4 @@
-//! `--help` and `--version`.
+//! What `--help` and `--version` print.
 
 pub fn version() -> String {
     version_line(sidluqethe::version(), sidluqethe::library_version())
@@ -33,7 +33,7 @@ PERMS     letters of r read, w write, a append, m map, l link, k lock,
           l 16, k 32, x 64
 --owner   the file is the step's own: rules with `owner` count
 --json    one object a line on standard output
---        ends the options
+--        ends the options: in a script, write it before words from elsewhere
 
 Exit status
   0  everything asked is granted; every file is accepted; explained

@@ -116,7 +116,7 @@ fn find<'a>(
 }
 
 fn say_answer(found: &Found<'_>, json: bool, output: &mut Output) -> u8 {
-    let status = match found.refused().is_empty() {
+    let status = match found.answer.grants(found.request.asked) {
         true => GRANTED,
         false => REFUSED,
     };
