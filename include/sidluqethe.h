@@ -175,8 +175,9 @@ size_t sidluqethe_read(const uint8_t *text, size_t text_length,
                        void *buffer, size_t buffer_length);
 
 /* Writes the answer to a request into the buffer, as sidluqethe_decide does. Memory is what sidluqethe_read filled, with the same
- * text: then the answers are those of sidluqethe_decide. Any other words and text end in an answer too, which means nothing but
- * that a rule whose places hold no good pattern or target matches nothing. */
+ * text: then the answers are those of sidluqethe_decide. Give as many words as sidluqethe_read was given: with fewer the last rules
+ * are not asked, and one that denies may be among them. Any other words and text end in an answer too, which means nothing but that a
+ * rule whose places hold no good pattern or target matches nothing. */
 size_t sidluqethe_ask(const uint8_t *text, size_t text_length,
                       const uint64_t *memory, size_t memory_words,
                       const uint8_t *name, size_t name_length,
