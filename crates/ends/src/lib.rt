@@ -28,15 +28,15 @@ pub fn is_ordinary(b: u8) -> bool
 pub fn literal_end(s: &[u8], at: usize) -> usize
     ensures { λ r. ⌜ r ≡ at + run ordinary (drop at (now (s .entry))) ⌝ }
 {
-    let mut i = at;
-    while i < s.len() {
-        if is_ordinary(s[i]) {
-            i += 1;
+    let mut end = at;
+    while end < s.len() {
+        if is_ordinary(s[end]) {
+            end += 1;
         } else {
-            return i;
+            return end;
         }
     }
-    i
+    end
 }
 
 // How many bytes stand from a place up to the first c and with it; 0 where there is no c.
@@ -92,14 +92,14 @@ pub fn part_end(s: &[u8], at: usize) -> usize
 pub fn seek(s: &[u8], at: usize, c: u8) -> usize
     ensures { λ r. ⌜ r ≡ at + before c 0 (drop at (now (s .entry))) ⌝ }
 {
-    let mut i = at;
-    while i < s.len() {
-        if s[i] == c {
-            return i;
+    let mut place = at;
+    while place < s.len() {
+        if s[place] == c {
+            return place;
         }
-        i = part_end(s, i);
+        place = part_end(s, place);
     }
-    i
+    place
 }
 
 // The place after the item at a place.

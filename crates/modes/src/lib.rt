@@ -1,7 +1,7 @@
 // Execute modes, as one table, and execute answers.
 ghost use mathlib.Core.Path.{_≡_};
 ghost use Prim.Native.Nat.{_<_};
-ghost use lib.ListN.{getD, take};
+ghost use lib.ListN.{length, getD, take};
 ghost use Rattle.scan.specs.Bytes.{bytes, same};
 ghost use Rattle.modes.specs.Modes.{modes, noRow, modeIn, kindNumber, fallbackNumber, sameMode, numberIn, wordIn, executeNumber, executeWord};
 
@@ -63,6 +63,7 @@ impl Execute {
     // An execute answer as document 01 writes it.
     pub fn word(self) -> Written
         ensures { λ r. ⌜ take (r .len) (r .bytes) ≡ executeWord self ⌝ }
+        ensures counted { λ r. ⌜ r .len ≡ length (executeWord self) ⌝ }
     {
         match self {
             Execute::NotAsked => Written {
@@ -209,6 +210,7 @@ fn mode_number(mode: Mode) -> u8
 // A mode as the table writes it; nothing where no row has it.
 fn mode_word(mode: Mode) -> Written
     ensures { λ r. ⌜ take (r .len) (r .bytes) ≡ wordIn modes mode ⌝ }
+    ensures counted { λ r. ⌜ r .len ≡ length (wordIn modes mode) ⌝ }
 {
     let n = mode_number(mode) as usize;
     let mut bytes = [b' '; 8];

@@ -29,15 +29,13 @@ ghost use Rattle.weigh.specs.Weigh.{Fits, gatheredOf, weighedBy};
 pub fn no_findings() -> Findings
     ensures { λ r. ⌜ ((s : List ℕ) → seenFindings s r ≡ nothing) ⌝ }
 {
+    let none = Carried {
+        all: Perms(0),
+        audited: Perms(0),
+    };
     Findings {
-        allowed: Carried {
-            all: Perms(0),
-            audited: Perms(0),
-        },
-        denied: Carried {
-            all: Perms(0),
-            audited: Perms(0),
-        },
+        allowed: none,
+        denied: none,
         exact: Choice::None,
         others: Choice::None,
     }

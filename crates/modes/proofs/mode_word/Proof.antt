@@ -1,4 +1,6 @@
 use borrow.Author.Needs.{needs}
+use mathlib.Core.Path.{ap}
+use lib.ListN.{length}
 use mathlib.Core.List.{[]}
 use native.Mathlib.Omega.{arith}
 use Rattle.scan.specs.Bytes.{bytes}
@@ -47,14 +49,14 @@ array-write-bytes-3 c = search needs
 
 returns : tie.Need-returns
 unfolding bytes
-returns c = word-two (c .before .before .before .args .mode) (c .before .before .mode-number .ensures) [] (c .if2 .taken)
+returns c = let w = word-two (c .before .before .before .args .mode) (c .before .before .mode-number .ensures) [] (c .if2 .taken) in (w, ap length w)
 
 returns-2 : tie.Need-returns-2
 unfolding bytes
-returns-2 c = word-three (c .before .before .before .args .mode) (c .before .before .mode-number .ensures) [] (c .if2 .left) (c .before .if1 .taken)
+returns-2 c = let w = word-three (c .before .before .before .args .mode) (c .before .before .mode-number .ensures) [] (c .if2 .left) (c .before .if1 .taken) in (w, ap length w)
 
 returns-3 : tie.Need-returns-3
-returns-3 c = word-none (c .before .before .args .mode) (c .before .mode-number .ensures) (c .if1 .left)
+returns-3 c = let w = word-none (c .before .before .args .mode) (c .before .mode-number .ensures) (c .if1 .left) in (w, ap length w)
 
 pub mode-word-spec : {M : Type 1} → statement M
 mode-word-spec =

@@ -1,4 +1,5 @@
 use borrow.Author.Needs.{needs}
+use mathlib.Core.Path.{refl}
 use Rattle.scan.specs.Bytes.{bytes}
 use Rattle.modes.proofs.Execute.word.Statement.{statement}
 use Rattle.modes.proofs.Execute.word.Tie as tie
@@ -20,15 +21,15 @@ mode-word-requires c κs = search needs
 
 returns : tie.Need-returns
 unfolding bytes
-returns c = rw (c .before .before .enum-told .given .1)
+returns c = rw (c .before .before .enum-told .given .1) (refl, refl)
 
 returns-2 : tie.Need-returns-2
 unfolding bytes
-returns-2 c = rw (c .before .before .enum-told2 .given .1)
+returns-2 c = rw (c .before .before .enum-told2 .given .1) (refl, refl)
 
 returns-3 : tie.Need-returns-3
 unfolding bytes
-returns-3 c = rw (c .before .before .enum-told3 .given .1)
+returns-3 c = rw (c .before .before .enum-told3 .given .1) (refl, refl)
 
 returns-4 : tie.Need-returns-4
 returns-4 c = rw (c .before .before .self .given .1) (c .mode-word .ensures)
