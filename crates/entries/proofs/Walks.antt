@@ -1,6 +1,6 @@
 -- A walk that fills a table with the records of a text, one by one, and that it fills it as reading shall.
 use Prim.Native.Nat.{ℕ, _+_, _≤_, _<_}
-use mathlib.Core.Path.{_≡_, refl, sym, ap, _∙_}
+use mathlib.Core.Path.{_≡_, refl, sym, ap, subst, _∙_}
 use mathlib.Core.List.{List, [], _∷_, _++_, map, map-append, append-assoc, append-nil}
 use mathlib.Core.Bool.{Bool, true, false, _||_}
 use lib.ListN.{length, getD, set, take, drop, length-append, length-map, length-set}
@@ -8,8 +8,8 @@ use lib.Seq.{length-take-le, take-suc-set}
 use native.Mathlib.Numerals.{add-one}
 use native.Mathlib.Omega.{arith}
 use Rattle.scan.proofs.Laws.{no-length}
-use Rattle.entries.specs.Entries.{Entry, entryOf, policyIn}
-use Rattle.entries.specs.Filled.{Filled, toldBy}
+use Rattle.entries.specs.Entries.{Counted, Entry, entryOf, policyIn}
+use Rattle.entries.specs.Filled.{Filled, accepted, toldBy}
 use Rattle.entries.specs.Ahead.{Judged, cursorAt, oneOf, policyAhead, restFrom}
 use Rattle.entries.specs.declared.Cursor.{Cursor}
 use Rattle.entries.specs.declared.Next.{Next}
@@ -64,25 +64,38 @@ module _ (text head : List ℕ) where
         let n : restFrom text head c ≡ [] = no-length (restFrom text head c) (omega (arith, left)) in
         sym (append-nil (map (entryOf text) (take i table))) ∙ ap (λ (l : List Entry). map (entryOf text) (take i table) ++ l) (sym n) ∙ w .so
 
+-- as many are to come as are counted, where the text is accepted
+pub ahead : (text head : List ℕ) (rooms : ℕ) (r : code.Reading) (head′ : List ℕ) → Judged text head rooms r head′ → accepted r → r .count ≡ length (whole text head′)
+unfolding policyAhead
+ahead text head rooms r head′ j q = j .count ∙ rw q (j .counted q .entries)
+
 module _ (text head : List ℕ) (table : List Record) (r : code.Reading) (head′ : List ℕ) (j : Judged text head (length table) r head′) where
   -- as many are to come as are counted
   pub counted-ahead : (i : ℕ) → i < r .count → i < length (whole text head′)
   counted-ahead i h = go (r .short || r .refused) refl
     where
       go : (b : Bool) → (r .short || r .refused) ≡ b → i < length (whole text head′)
-      go true q = absurd (omega (arith, rw q at (j .ahead)))
-      go false q = omega (arith, rw q at (j .ahead))
+      go true q = absurd (omega (arith, rw q at (j .count)))
+      go false q = omega (arith, ahead text head (length table) r head′ j q)
 
   -- after as many steps as are counted the table is filled
   pub filled : (table′ : List Record) (c : Cursor) → Walked text head′ table′ (r .count) c → drop (r .count) table′ ≡ drop (r .count) table →
       length table′ ≡ length table → Filled text head table r head′ table′
   unfolding policyIn policyAhead toldBy
-  filled table′ c w d l = record { told = go (r .short) (r .refused) refl refl ∙ j .told; count = j .count; beyond = d; records = l; stays = j .stays }
+  filled table′ c w d l =
+      record {
+        told = go (r .short) (r .refused) refl refl ∙ j .told;
+        counted = λ q. subst (Counted head′) (sym (same q)) (j .counted q);
+        count = j .count;
+        beyond = d;
+        records = l;
+        stays = j .stays;
+      }
     where
-      same : (r .short || r .refused) ≡ false → policyIn text head′ table′ ≡ policyAhead text head′
+      same : accepted r → policyIn text head′ table′ ≡ policyAhead text head′
       same q =
           let n : r .count ≡ getD head′ 1250 0 = j .count ∙ rw q in
-          let m : r .count ≡ length (whole text head′) = j .ahead ∙ rw q in
+          let m : r .count ≡ length (whole text head′) = ahead text head (length table) r head′ j q in
           rw (← n, walked-all text head′ table′ (r .count) c w m)
 
       go : (a b : Bool) → r .short ≡ a → r .refused ≡ b → toldBy r (policyIn text head′ table′) ≡ toldBy r (policyAhead text head′)

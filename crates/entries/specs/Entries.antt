@@ -1,5 +1,6 @@
 -- What a table of rule records and its head say over the text, and what reading fills them with.
 use Prim.Native.Nat.{ℕ, zero, suc, _+_, _*_, min}
+use mathlib.Core.Path.{_≡_}
 use mathlib.Core.List.{List, [], _∷_, _++_, map}
 use lib.ListN.{length, getD, take, drop}
 use lib.Dec.{ltb}
@@ -67,6 +68,11 @@ policyIn text head table =
       names = namesFrom text (drop 1120 head) (min 32 (getD head 1249 0)) 0;
       entries = map (entryOf text) (take (getD head 1250 0) table);
     }
+
+-- "hands back their count": the numbers of a head are those of the profiles and rules that are told, none larger
+pub record Counted (head : List ℕ) (p : Policy) : Type 0 where
+  pub names : getD head 1249 0 ≡ length (p .names)
+  pub entries : getD head 1250 0 ≡ length (p .entries)
 
 -- ---- reading
 

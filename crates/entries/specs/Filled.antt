@@ -2,10 +2,10 @@
 use Prim.Native.Nat.{ℕ}
 use mathlib.Core.Path.{_≡_}
 use mathlib.Core.List.{List}
-use mathlib.Core.Bool.{_||_}
+use mathlib.Core.Bool.{false, _||_}
 use lib.ListN.{length, getD, drop}
 use Rattle.scan.specs.Bytes.{if_then_else_}
-use Rattle.entries.specs.Entries.{Policy, Told, Short, Rejected, Accepted, policyIn, readOf}
+use Rattle.entries.specs.Entries.{Counted, Policy, Told, Short, Rejected, Accepted, policyIn, readOf}
 use Rattle.entries.specs.declared.Record.{Record}
 use Rattle.entries.specs.declared.Reading.{Reading}
 
@@ -17,9 +17,14 @@ toldBy r p = if r .short then Short else if r .refused then Rejected (r .refusal
 abbrev pub written : {A : Type 0} → Reading → (none all : A) → A
 written r none all = if r .short || r .refused then none else all
 
+-- nothing is short, nothing refused
+abbrev pub accepted : Reading → Type 0
+accepted r = (r .short || r .refused) ≡ false
+
 -- "Refused texts leave the table as found; records beyond the count are untouched."
 pub record Filled (text head : List ℕ) (table : List Record) (r : Reading) (head′ : List ℕ) (table′ : List Record) : Type 0 where
   pub told : toldBy r (policyIn text head′ table′) ≡ readOf (length head) (length table) text
+  pub counted : accepted r → Counted head′ (policyIn text head′ table′)
   pub count : r .count ≡ written r 0 (getD head′ 1250 0)
   pub beyond : drop (r .count) table′ ≡ drop (r .count) table
   pub records : length table′ ≡ length table
