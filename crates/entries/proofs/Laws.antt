@@ -13,6 +13,7 @@ use Rattle.text.specs.Reading.{Reading, Read, Refused, nowhere}
 use Rattle.pattern.specs.Expansions.{Variable}
 use Rattle.pattern.specs.Faults.{patternFault}
 use Rattle.pattern.specs.Table.{bytesAt, env, valuesFrom, variables}
+use Rattle.preamble.proofs.Laws.{length-variables}
 use Rattle.profile.specs.Profiles.{File, Profile, fileWithin, ruleCount, rulesIn}
 use Rattle.profile.specs.Places.{FileKept, Judged as ReadJudged, Accepted as Taken, Rejected as NotTaken, judgedOf, profilesAgain, profilesBy, profilesFrom, seenFile}
 use Rattle.profile.specs.declared.FileRead.{FileRead}
@@ -125,8 +126,8 @@ module _ (text head v p rest : List ℕ) (n k m : ℕ) (i : length v ≡ 1120) (
   few-counted : min 32 (getD head 1249 0) ≡ k
   few-counted = ap (min 32) (behind-at 1) ∙ min-eq-right few
 
-  pub counts-at : (getD head 1249 0 ≡ k) × (getD head 1250 0 ≡ m)
-  counts-at = (behind-at 1, behind-at 2)
+  pub counts-at : (getD head 1248 0 ≡ n) × ((getD head 1249 0 ≡ k) × (getD head 1250 0 ≡ m))
+  counts-at = (behind-at 0, (behind-at 1, behind-at 2))
 
   again : profilesAgain text (drop 1120 head) (min 32 (getD head 1249 0)) 0 ≡ profilesAgain text p k 0
   again = ap (λ (x : ℕ). profilesAgain text (drop 1120 head) x 0) few-counted ∙ profiles-same (λ _. 0) text (drop 1120 head) p profiles-at k 0 (omega arith)
@@ -208,11 +209,14 @@ module _ (text head : List ℕ) (rooms : ℕ) (r : code.Reading) where
           let seen : seenFile text v f ≡ Taken vs ps = rw h in
           let all : f .rules ≡ rulesIn ps = k .rules ∙ count-judged text file ∙ ap countJudged (sym g ∙ seen) in
           let at = counts-at text head′ v (f .profiles) (drop 1251 head) (f .vars) (f .count) (f .rules) i j (k .few) e in
+          let set : length vs ≡ f .vars = length-variables text v (min 32 (f .vars)) ∙ min-eq-right (k .set) in
           let n : length (map named ps) ≡ f .count = length-map ps named ∙ profiles-length (patternFault vs) text (f .profiles) (f .count) 0 in
           record {
             told = rw (whole, b) (ap Accepted p ∙ sym (read ∙ ap toldJudged seen));
-            counted = λ _. subst (Counted head′) (sym p) (record { names = at .0 ∙ sym n; entries = at .1 ∙ all ∙ sym (entries-length 0 ps) });
-            count = rw (whole, b) (c ∙ sym (at .1));
+            counted =
+                λ _. subst (Counted head′) (sym p)
+                (record { variables = at .0 ∙ sym set; names = at .1 .0 ∙ sym n; entries = at .1 .1 ∙ all ∙ sym (entries-length 0 ps) });
+            count = rw (whole, b) (c ∙ sym (at .1 .1));
             fits = omega (arith, c, k .fits, min-le-right 512 rooms);
             stays = rw (whole, b) (ap (drop 1251) w ∙ drop-at (v ++ f .profiles ++ counts) (drop 1251 head) 1251 size);
           }

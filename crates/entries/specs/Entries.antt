@@ -69,8 +69,9 @@ policyIn text head table =
       entries = map (entryOf text) (take (getD head 1250 0) table);
     }
 
--- "hands back their count": the numbers of a head are those of the profiles and rules that are told, none larger
+-- "hands back their count": the numbers of a head are those of the variables, profiles and rules that are told, none larger
 pub record Counted (head : List ℕ) (p : Policy) : Type 0 where
+  pub variables : getD head 1248 0 ≡ length (p .variables)
   pub names : getD head 1249 0 ≡ length (p .names)
   pub entries : getD head 1250 0 ≡ length (p .entries)
 

@@ -178,7 +178,7 @@ module _ (text memory judged m : List ℕ) (rooms : ℕ) (r : Reading) (at : Cur
   counted-filled e =
       let c = j .counted e in
       subst (Counted m) (sym (policy-filled e))
-      (record { names = f .agree 1249 (omega arith) ∙ c .names; entries = f .agree 1250 (omega arith) ∙ c .entries })
+      (record { variables = f .agree 1248 (omega arith) ∙ c .variables; names = f .agree 1249 (omega arith) ∙ c .names; entries = f .agree 1250 (omega arith) ∙ c .entries })
 
   pub filling-end : FilledIn text memory r m
   filling-end =
