@@ -11,11 +11,13 @@ use borrow.Author.Tests.{lt-ltb, le-ltb}
 use Rattle.scan.specs.Bytes.{span}
 use Rattle.text.specs.Reading.{Reading, Read, Refused, nowhere}
 use Rattle.pattern.specs.Expansions.{Variable}
+use Rattle.pattern.specs.Faults.{patternFault}
 use Rattle.pattern.specs.Table.{bytesAt, env, valuesFrom, variables}
+use Rattle.preamble.proofs.Laws.{length-variables}
 use Rattle.profile.specs.Profiles.{File, Profile, fileWithin, ruleCount, rulesIn}
 use Rattle.profile.specs.Places.{FileKept, Judged as ReadJudged, Accepted as Taken, Rejected as NotTaken, judgedOf, profilesAgain, profilesBy, profilesFrom, seenFile}
 use Rattle.profile.specs.declared.FileRead.{FileRead}
-use Rattle.entries.specs.Entries.{Policy, Told, Rejected, Accepted, entry, entriesFrom, namesFrom, policyOf, readOf, toldOf}
+use Rattle.entries.specs.Entries.{Policy, Told, Rejected, Accepted, entry, entriesFrom, namesFrom, numbersOf, policyOf, readOf, toldOf}
 use Rattle.entries.specs.Filled.{toldBy}
 use Rattle.entries.specs.Ahead.{Judged, cursorAt, policyAhead, restFrom}
 use Rattle.entries.specs.declared.Reading as code
@@ -82,6 +84,11 @@ unfolding namesFrom profilesBy
 names-by fault s t zero i = refl
 names-by fault s t (suc k) i = ap (λ (l : List (List ℕ)). bytesAt s t (4 * i) ∷ l) (names-by fault s t k (i + 1))
 
+profiles-length : (fault : List ℕ → ℕ) (s t : List ℕ) (k i : ℕ) → length (profilesBy fault s t k i) ≡ k
+unfolding profilesBy
+profiles-length fault s t zero i = refl
+profiles-length fault s t (suc k) i = ap suc (profiles-length fault s t k (i + 1))
+
 entries-length : (i : ℕ) (ps : List Profile) → length (entriesFrom i ps) ≡ rulesIn ps
 unfolding entriesFrom rulesIn
 entries-length i [] = refl
@@ -116,16 +123,16 @@ module _ (text head v p rest : List ℕ) (n k m : ℕ) (i : length v ≡ 1120) (
       ∙ ap (λ (l : List ℕ). getD l x 0) (drop-append-le 1120 (v ++ p) (n ∷ k ∷ m ∷ rest) (omega (arith, size)) ∙ ap (λ (l : List ℕ). l ++ n ∷ k ∷ m ∷ rest) (drop-at v p 1120 i))
       ∙ List·getD-append p (n ∷ k ∷ m ∷ rest) 0 x (omega arith)
 
-  counted : min 32 (getD head 1249 0) ≡ k
-  counted = ap (min 32) (behind-at 1) ∙ min-eq-right few
+  few-counted : min 32 (getD head 1249 0) ≡ k
+  few-counted = ap (min 32) (behind-at 1) ∙ min-eq-right few
 
-  pub rules-at : getD head 1250 0 ≡ m
-  rules-at = behind-at 2
+  pub counts-at : (getD head 1248 0 ≡ n) × ((getD head 1249 0 ≡ k) × (getD head 1250 0 ≡ m))
+  counts-at = (behind-at 0, (behind-at 1, behind-at 2))
 
   again : profilesAgain text (drop 1120 head) (min 32 (getD head 1249 0)) 0 ≡ profilesAgain text p k 0
-  again = ap (λ (x : ℕ). profilesAgain text (drop 1120 head) x 0) counted ∙ profiles-same (λ _. 0) text (drop 1120 head) p profiles-at k 0 (omega arith)
+  again = ap (λ (x : ℕ). profilesAgain text (drop 1120 head) x 0) few-counted ∙ profiles-same (λ _. 0) text (drop 1120 head) p profiles-at k 0 (omega arith)
 
-  pub entries-told : restFrom text head (cursorAt head 0) ≡ entriesFrom 0 (profilesAgain text p k 0)
+  entries-told : restFrom text head (cursorAt head 0) ≡ entriesFrom 0 (profilesAgain text p k 0)
   entries-told =
       let z : min 32 (getD head 1249 0) - 0 ≡ min 32 (getD head 1249 0) = omega arith in
       rest-at text head 0 ∙ ap (λ (x : ℕ). entriesFrom 0 (profilesAgain text (drop 1120 head) x 0)) z ∙ ap (entriesFrom 0) again
@@ -153,6 +160,9 @@ unfolding judgedOf policyOf
 told-judged s (Read f) = refl
 told-judged s (Refused n p) = refl
 
+pub three : {a b c x y z : ℕ} → a ≡ x → b ≡ y → c ≡ z → (a ∷ b ∷ c ∷ []) ≡ (x ∷ y ∷ z ∷ [])
+three e f g = ap₂ (λ (n : ℕ) (l : List ℕ). n ∷ l) e (ap₂ (λ (n : ℕ) (l : List ℕ). n ∷ l) f (ap (λ (n : ℕ). n ∷ []) g))
+
 abbrev countJudged : ReadJudged → ℕ
 countJudged (Taken vs ps) = rulesIn ps
 countJudged (NotTaken r) = 0
@@ -165,7 +175,7 @@ count-judged s (Refused n p) = refl
 module _ (text head : List ℕ) (rooms : ℕ) (r : code.Reading) where
   -- nothing is written
   nothing : toldBy r (policyAhead text head) ≡ readOf (length head) rooms text → (r .short || r .refused) ≡ true → r .count ≡ 0 → Judged text head rooms r head
-  nothing t b c = record { told = t; count = rw b c; ahead = rw b c; fits = omega arith; stays = refl }
+  nothing t b c = record { told = t; counted = rw b; count = rw b c; fits = omega arith; stays = refl }
 
   pub judged-short : length head < 1256 → r .short ≡ true → r .count ≡ 0 → Judged text head rooms r head
   unfolding toldBy readOf
@@ -201,14 +211,13 @@ module _ (text head : List ℕ) (rooms : ℕ) (r : code.Reading) where
           policy-told text head′ v (f .profiles) (drop 1251 head) (f .vars) (f .count) (f .rules) i j (k .few) e ∙ ap (policyBy vs) (k .again) in
           let seen : seenFile text v f ≡ Taken vs ps = rw h in
           let all : f .rules ≡ rulesIn ps = k .rules ∙ count-judged text file ∙ ap countJudged (sym g ∙ seen) in
-          let ahead : length (restFrom text head′ (cursorAt head′ 0)) ≡ rulesIn ps =
-          ap length (entries-told text head′ v (f .profiles) (drop 1251 head) (f .vars) (f .count) (f .rules) i j (k .few) e)
-          ∙ entries-length 0 (profilesAgain text (f .profiles) (f .count) 0)
-          ∙ ap rulesIn (k .again) in
+          let at = counts-at text head′ v (f .profiles) (drop 1251 head) (f .vars) (f .count) (f .rules) i j (k .few) e in
+          let set : length vs ≡ f .vars = length-variables text v (min 32 (f .vars)) ∙ min-eq-right (k .set) in
+          let n : length (map named ps) ≡ f .count = length-map ps named ∙ profiles-length (patternFault vs) text (f .profiles) (f .count) 0 in
           record {
             told = rw (whole, b) (ap Accepted p ∙ sym (read ∙ ap toldJudged seen));
-            count = rw (whole, b) (c ∙ sym (rules-at text head′ v (f .profiles) (drop 1251 head) (f .vars) (f .count) (f .rules) i j (k .few) e));
-            ahead = rw (whole, b) (c ∙ all ∙ sym ahead);
+            counted = rw (whole, b) (three (at .0 ∙ sym set) (at .1 .0 ∙ sym n) (at .1 .1 ∙ all ∙ sym (entries-length 0 ps)) ∙ ap numbersOf (sym p));
+            count = rw (whole, b) (c ∙ sym (at .1 .1));
             fits = omega (arith, c, k .fits, min-le-right 512 rooms);
             stays = rw (whole, b) (ap (drop 1251) w ∙ drop-at (v ++ f .profiles ++ counts) (drop 1251 head) 1251 size);
           }

@@ -8,8 +8,8 @@ use lib.Seq.{length-take-le, take-suc-set}
 use native.Mathlib.Numerals.{add-one}
 use native.Mathlib.Omega.{arith}
 use Rattle.scan.proofs.Laws.{no-length}
-use Rattle.entries.specs.Entries.{Entry, entryOf, policyIn}
-use Rattle.entries.specs.Filled.{Filled, toldBy}
+use Rattle.entries.specs.Entries.{Entry, entryOf, numbersOf, policyIn}
+use Rattle.entries.specs.Filled.{Filled, toldBy, written}
 use Rattle.entries.specs.Ahead.{Judged, cursorAt, oneOf, policyAhead, restFrom}
 use Rattle.entries.specs.declared.Cursor.{Cursor}
 use Rattle.entries.specs.declared.Next.{Next}
@@ -64,25 +64,50 @@ module _ (text head : List ℕ) where
         let n : restFrom text head c ≡ [] = no-length (restFrom text head c) (omega (arith, left)) in
         sym (append-nil (map (entryOf text) (take i table))) ∙ ap (λ (l : List Entry). map (entryOf text) (take i table) ++ l) (sym n) ∙ w .so
 
+-- the text is accepted
+abbrev pub accepted : code.Reading → Type 0
+accepted r = (r .short || r .refused) ≡ false
+
+-- what is written is the same where it is the same of an accepted text
+pub written-same : {A : Type 0} (r : code.Reading) (none a b : A) → (accepted r → a ≡ b) → written r none a ≡ written r none b
+written-same r none a b f = go (r .short || r .refused) refl
+  where
+    go : (c : Bool) → (r .short || r .refused) ≡ c → written r none a ≡ written r none b
+    go true q = rw q
+    go false q = rw q (f q)
+
+-- as many are to come as are counted, where the text is accepted
+pub ahead : (text head : List ℕ) (rooms : ℕ) (r : code.Reading) (head′ : List ℕ) → Judged text head rooms r head′ → accepted r → r .count ≡ length (whole text head′)
+unfolding policyAhead
+ahead text head rooms r head′ j q = j .count ∙ rw q (ap (λ (l : List ℕ). getD l 2 0) (rw q at (j .counted)))
+
 module _ (text head : List ℕ) (table : List Record) (r : code.Reading) (head′ : List ℕ) (j : Judged text head (length table) r head′) where
   -- as many are to come as are counted
   pub counted-ahead : (i : ℕ) → i < r .count → i < length (whole text head′)
   counted-ahead i h = go (r .short || r .refused) refl
     where
       go : (b : Bool) → (r .short || r .refused) ≡ b → i < length (whole text head′)
-      go true q = absurd (omega (arith, rw q at (j .ahead)))
-      go false q = omega (arith, rw q at (j .ahead))
+      go true q = absurd (omega (arith, rw q at (j .count)))
+      go false q = omega (arith, ahead text head (length table) r head′ j q)
 
   -- after as many steps as are counted the table is filled
   pub filled : (table′ : List Record) (c : Cursor) → Walked text head′ table′ (r .count) c → drop (r .count) table′ ≡ drop (r .count) table →
       length table′ ≡ length table → Filled text head table r head′ table′
   unfolding policyIn policyAhead toldBy
-  filled table′ c w d l = record { told = go (r .short) (r .refused) refl refl ∙ j .told; count = j .count; beyond = d; records = l; stays = j .stays }
+  filled table′ c w d l =
+      record {
+        told = go (r .short) (r .refused) refl refl ∙ j .told;
+        counted = j .counted ∙ written-same r [] _ _ (λ q. ap numbersOf (sym (same q)));
+        count = j .count;
+        beyond = d;
+        records = l;
+        stays = j .stays;
+      }
     where
-      same : (r .short || r .refused) ≡ false → policyIn text head′ table′ ≡ policyAhead text head′
+      same : accepted r → policyIn text head′ table′ ≡ policyAhead text head′
       same q =
           let n : r .count ≡ getD head′ 1250 0 = j .count ∙ rw q in
-          let m : r .count ≡ length (whole text head′) = j .ahead ∙ rw q in
+          let m : r .count ≡ length (whole text head′) = ahead text head (length table) r head′ j q in
           rw (← n, walked-all text head′ table′ (r .count) c w m)
 
       go : (a b : Bool) → r .short ≡ a → r .refused ≡ b → toldBy r (policyIn text head′ table′) ≡ toldBy r (policyAhead text head′)

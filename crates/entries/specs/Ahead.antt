@@ -11,7 +11,7 @@ use Rattle.text.specs.declared.Refusal.{Refusal}
 use Rattle.pattern.specs.Table.{env}
 use Rattle.statement.specs.Steps.{rulesFrom}
 use Rattle.profile.specs.Places.{profilesAgain}
-use Rattle.entries.specs.Entries.{Entry, Policy, entry, entriesFrom, entryOf, namesFrom, readOf}
+use Rattle.entries.specs.Entries.{Entry, Policy, entry, entriesFrom, entryOf, namesFrom, numbersIn, numbersOf, readOf}
 use Rattle.entries.specs.Filled.{toldBy, written}
 use Rattle.entries.specs.declared.Cursor.{Cursor}
 use Rattle.entries.specs.declared.Next.{Next}
@@ -67,7 +67,7 @@ pub record Laid (head vars profiles counts head′ : List ℕ) : Type 0 where
 -- a text that is not accepted leaves the head as it was; of one that is, the head tells all, and its first 1251 numbers are written
 pub record Judged (text head : List ℕ) (rooms : ℕ) (r : Reading) (head′ : List ℕ) : Type 0 where
   pub told : toldBy r (policyAhead text head′) ≡ readOf (length head) rooms text
+  pub counted : written r [] (numbersIn head′) ≡ written r [] (numbersOf (policyAhead text head′))
   pub count : r .count ≡ written r 0 (getD head′ 1250 0)
-  pub ahead : r .count ≡ written r 0 (length (restFrom text head′ (cursorAt head′ 0)))
   pub fits : r .count ≤ rooms
   pub stays : drop (written r 0 1251) head′ ≡ drop (written r 0 1251) head

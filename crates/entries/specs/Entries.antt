@@ -68,6 +68,13 @@ policyIn text head table =
       entries = map (entryOf text) (take (getD head 1250 0) table);
     }
 
+-- "hands back their count": the numbers of variables, profiles and rules, as a head has them and as they are told
+abbrev pub numbersIn : (head : List ℕ) → List ℕ
+numbersIn head = getD head 1248 0 ∷ getD head 1249 0 ∷ getD head 1250 0 ∷ []
+
+abbrev pub numbersOf : Policy → List ℕ
+numbersOf p = length (p .variables) ∷ length (p .names) ∷ length (p .entries) ∷ []
+
 -- ---- reading
 
 -- a head that is too short is told; a text is rejected with a number, a line and a column, or accepted

@@ -1,11 +1,11 @@
 -- What reading does to a head and a table.
 use Prim.Native.Nat.{ℕ}
 use mathlib.Core.Path.{_≡_}
-use mathlib.Core.List.{List}
+use mathlib.Core.List.{List, []}
 use mathlib.Core.Bool.{_||_}
 use lib.ListN.{length, getD, drop}
 use Rattle.scan.specs.Bytes.{if_then_else_}
-use Rattle.entries.specs.Entries.{Policy, Told, Short, Rejected, Accepted, policyIn, readOf}
+use Rattle.entries.specs.Entries.{Policy, Told, Short, Rejected, Accepted, numbersIn, numbersOf, policyIn, readOf}
 use Rattle.entries.specs.declared.Record.{Record}
 use Rattle.entries.specs.declared.Reading.{Reading}
 
@@ -20,6 +20,7 @@ written r none all = if r .short || r .refused then none else all
 -- "Refused texts leave the table as found; records beyond the count are untouched."
 pub record Filled (text head : List ℕ) (table : List Record) (r : Reading) (head′ : List ℕ) (table′ : List Record) : Type 0 where
   pub told : toldBy r (policyIn text head′ table′) ≡ readOf (length head) (length table) text
+  pub counted : written r [] (numbersIn head′) ≡ written r [] (numbersOf (policyIn text head′ table′))
   pub count : r .count ≡ written r 0 (getD head′ 1250 0)
   pub beyond : drop (r .count) table′ ≡ drop (r .count) table
   pub records : length table′ ≡ length table

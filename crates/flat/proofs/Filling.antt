@@ -10,9 +10,11 @@ use Rattle.scan.specs.Bytes.{if_then_else_}
 use Rattle.scan.proofs.Laws.{no-length}
 use Rattle.pattern.specs.Expansions.{Variable}
 use Rattle.pattern.specs.Table.{env}
-use Rattle.entries.specs.Entries.{Entry, Policy, Short, Rejected, Accepted, entryOf, namesFrom, policyIn, readOf}
+use Rattle.entries.specs.Entries.{Entry, Policy, Short, Rejected, Accepted, entryOf, namesFrom, numbersIn, numbersOf, policyIn, readOf}
 use Rattle.entries.specs.Filled.{toldBy, written}
 use Rattle.entries.specs.Ahead.{Judged, cursorAt, oneOf, policyAhead, restFrom}
+use Rattle.entries.proofs.Laws.{three}
+use Rattle.entries.proofs.Walks.{accepted, ahead, written-same}
 use Rattle.entries.specs.declared.Cursor.{Cursor}
 use Rattle.entries.specs.declared.Next.{Next}
 use Rattle.entries.specs.declared.Reading.{Reading}
@@ -22,8 +24,6 @@ use Rattle.flat.specs.Filled.{FilledIn}
 use Rattle.flat.proofs.Head.{Agree, env-agree, names-agree, rest-agree}
 use Rattle.flat.proofs.Round.{paste-before, records-same, records-snoc}
 use Rattle.flat.proofs.Walk.{records-length, records-take}
-
--- ---- lists
 
 -- ---- the walk
 
@@ -110,15 +110,15 @@ module _ (text judged m m′ : List ℕ) (n i : ℕ) (at : Cursor) (one : Next) 
 -- where there is a record to write, as many are to come as were counted
 pub counted-ahead : (text memory judged : List ℕ) (rooms : ℕ) (r : Reading) → Judged text memory rooms r judged → (i : ℕ) → i < r .count →
     length (restFrom text judged (cursorAt judged 0)) ≡ r .count
-counted-ahead text memory judged rooms r j i h = go (r .short || r .refused) (j .ahead)
+counted-ahead text memory judged rooms r j i h = go (r .short || r .refused) refl
   where
-    go : (b : Bool) → r .count ≡ (if b then 0 else length (restFrom text judged (cursorAt judged 0))) → length (restFrom text judged (cursorAt judged 0)) ≡ r .count
-    go true e = absurd (omega (arith, e))
-    go false e = sym e
+    go : (b : Bool) → (r .short || r .refused) ≡ b → length (restFrom text judged (cursorAt judged 0)) ≡ r .count
+    go true e = absurd (omega (arith, rw e at (j .count)))
+    go false e = sym (ahead text memory rooms r judged j e)
 
 -- ---- the end
 
-told-same : (r : Reading) (p q : Policy) → ((r .short || r .refused) ≡ false → p ≡ q) → toldBy r p ≡ toldBy r q
+told-same : (r : Reading) (p q : Policy) → (accepted r → p ≡ q) → toldBy r p ≡ toldBy r q
 unfolding toldBy
 told-same r p q h = go (r .short) (r .refused) h
   where
@@ -137,24 +137,24 @@ module _ (text memory judged m : List ℕ) (rooms : ℕ) (r : Reading) (at : Cur
   abbrev whole : List Entry
   whole = restFrom text judged (cursorAt judged 0)
 
-  same-count : (r .short || r .refused) ≡ false → getD m 1250 0 ≡ n
+  same-count : accepted r → getD m 1250 0 ≡ n
   same-count e = f .agree 1250 (omega arith) ∙ sym (rw e at (j .count))
 
-  all-done : (r .short || r .refused) ≡ false → map (entryOf text) (recordsFrom n m 1256) ≡ whole
+  all-done : accepted r → map (entryOf text) (recordsFrom n m 1256) ≡ whole
   all-done e =
-      let k : n ≡ length whole = rw e at (j .ahead) in
+      let k : n ≡ length whole = ahead text memory rooms r judged j e in
       let filled : List Entry = map (entryOf text) (recordsFrom n m 1256) in
       let l : length filled ≡ n = length-map (recordsFrom n m 1256) (entryOf text) ∙ records-length n m 1256 in
       let z : restFrom text judged at ≡ [] = no-length (restFrom text judged at) (omega (arith, l, k, length-append filled (restFrom text judged at), ap length (f .done))) in
       sym (append-nil filled) ∙ ap (λ (x : List Entry). filled ++ x) (sym z) ∙ f .done
 
-  entries-filled : (r .short || r .refused) ≡ false → map (entryOf text) (take (getD m 1250 0) (recordsIn m)) ≡ whole
+  entries-filled : accepted r → map (entryOf text) (take (getD m 1250 0) (recordsIn m)) ≡ whole
   entries-filled e =
       let s : length m ≡ length memory = f .size ∙ same-size in
       let k : n ≤ roomIn (length m) = rw s (rw room at (j .fits)) in
       ap (λ (l : List Record). map (entryOf text) l) (ap (λ (x : ℕ). take x (recordsIn m)) (same-count e) ∙ records-take n (roomIn (length m)) m 1256 k) ∙ all-done e
 
-  policy-filled : (r .short || r .refused) ≡ false → policyIn text m (recordsIn m) ≡ policyAhead text judged
+  policy-filled : accepted r → policyIn text m (recordsIn m) ≡ policyAhead text judged
   unfolding policyIn policyAhead
   policy-filled e =
       ap₂ (λ (v : List Variable) (x : List Entry). record { variables = v; names = namesFrom text (drop 1120 m) (min 32 (getD m 1249 0)) 0; entries = x })
@@ -163,7 +163,7 @@ module _ (text memory judged m : List ℕ) (rooms : ℕ) (r : Reading) (at : Cur
 
   beyond-filled : (b : Bool) → (r .short || r .refused) ≡ b → drop (if b then 0 else 1256 + 12 * n) m ≡ drop (if b then 0 else 1256 + 12 * n) memory
   beyond-filled true e =
-      let z : n ≡ 0 = rw e at (j .ahead) in
+      let z : n ≡ 0 = rw e at (j .count) in
       f .untouched z ∙ rw e at (j .stays)
   beyond-filled false e =
       let s : drop 1251 judged ≡ drop 1251 memory = rw e at (j .stays) in
@@ -175,6 +175,12 @@ module _ (text memory judged m : List ℕ) (rooms : ℕ) (r : Reading) (at : Cur
       ∙ drop-drop (5 + 12 * n) 1251 memory
       ∙ ap (λ (x : ℕ). drop x memory) k
 
+  counted-filled : written r [] (numbersIn m) ≡ written r [] (numbersOf (policyIn text m (recordsIn m)))
+  counted-filled =
+      ap (λ (l : List ℕ). written r [] l) (three (f .agree 1248 (omega arith)) (f .agree 1249 (omega arith)) (f .agree 1250 (omega arith)))
+      ∙ j .counted
+      ∙ written-same r [] _ _ (λ e. ap numbersOf (sym (policy-filled e)))
+
   pub filling-end : FilledIn text memory r m
   filling-end =
       record {
@@ -182,8 +188,8 @@ module _ (text memory judged m : List ℕ) (rooms : ℕ) (r : Reading) (at : Cur
             told-same r (policyIn text m (recordsIn m)) (policyAhead text judged) policy-filled
             ∙ j .told
             ∙ ap (λ (k : ℕ). readOf (length memory) k text) room;
+        counted = counted-filled;
         count = j .count ∙ ap (λ (k : ℕ). written r 0 k) (sym (f .agree 1250 (omega arith)));
-        room = rw room at (j .fits);
         size = f .size ∙ same-size;
         beyond = beyond-filled (r .short || r .refused) refl;
       }

@@ -61,7 +61,7 @@ no-operator s (read.End p) = refl
 
 -- ---- variables of a table
 
-length-variables : (text t : List ℕ) (n : ℕ) → length (variables text t n) ≡ n
+pub length-variables : (text t : List ℕ) (n : ℕ) → length (variables text t n) ≡ n
 unfolding variables
 length-variables text t zero = refl
 length-variables text t (suc n) = ap suc (length-variables text t n)

@@ -22,7 +22,7 @@ use variables::with_value;
 ghost use mathlib.Core.Path.{_≡_};
 ghost use mathlib.Core.List.{List, []};
 ghost use mathlib.Core.Bool.{true};
-ghost use Prim.Native.Nat.{ℕ, _+_, _<_};
+ghost use Prim.Native.Nat.{ℕ, _+_, _≤_, _<_};
 ghost use lib.ListN.{length, drop};
 ghost use Rattle.scan.specs.Bytes.{bytes, run, span};
 ghost use Rattle.blanks.specs.Blanks.{inLine, standsAt};
@@ -205,6 +205,7 @@ fn open_name(
 ) -> Opened
     requires { ⌜ nameFault (env (now text) (now vars) n) adds (span (now text) start end) ≡ 0 ⌝ }
     ensures { λ r. ⌜ Opening (now (text .entry)) (now (vars .exit)) (env (now (text .entry)) (now (vars .entry)) n) adds (span (now (text .entry)) start end) r ⌝ }
+    ensures few { λ r. ⌜ (n ≤ 32 → r .count ≤ 32) ⌝ }
 {
     if adds {
         let found = named(text, vars, n, start, end);
@@ -220,6 +221,7 @@ fn open_name(
 // A refusal.
 fn refused_at(number: u8, place: Place) -> PreambleRead
     ensures { λ r. ⌜ ((text vars : List ℕ) → seenPreamble text vars r ≡ Refused number (place .0)) ⌝ }
+    ensures none { λ r. ⌜ r .count ≡ 0 ⌝ }
 {
     PreambleRead {
         refused: true,
@@ -241,6 +243,7 @@ fn after_operator(
     next: Place,
 ) -> PreambleRead
     ensures { λ r. ⌜ seenPreamble (now (text .entry)) (now (vars .exit)) r ≡ assignedOf (env (now (text .entry)) (now (vars .entry)) n) (afterOperator (env (now (text .entry)) (now (vars .entry)) n) (now (text .entry)) (span (now (text .entry)) start end) start sign (record { adds = adds; next = next .0 })) ⌝ }
+    ensures few { λ r. ⌜ (n ≤ 32 → r .count ≤ 32) ⌝ }
 {
     let fault = name_fault(text, vars, n, adds, start, end);
     if fault != 0 {
@@ -274,6 +277,7 @@ fn after_name(
 ) -> PreambleRead
     requires { ⌜ end < length (now text) ⌝ }
     ensures { λ r. ⌜ seenPreamble (now (text .entry)) (now (vars .exit)) r ≡ assignedOf (env (now (text .entry)) (now (vars .entry)) n) (afterName (env (now (text .entry)) (now (vars .entry)) n) (now (text .entry)) (span (now (text .entry)) start end) start end) ⌝ }
+    ensures few { λ r. ⌜ (n ≤ 32 → r .count ≤ 32) ⌝ }
 {
     let sign = in_line_at(text, end + 1);
     let operator = operator_at(text, sign);
@@ -317,6 +321,7 @@ fn name_end(text: &[u8], at: usize) -> usize
 fn assignment_at(text: &[u8], vars: &mut [usize; 1120], n: usize, at: Place) -> PreambleRead
     requires { ⌜ standsAt (bytes "@{") (now text) (at .0) ≡ true ⌝ }
     ensures { λ r. ⌜ seenPreamble (now (text .entry)) (now (vars .exit)) r ≡ assignedOf (env (now (text .entry)) (now (vars .entry)) n) (assignmentAt (env (now (text .entry)) (now (vars .entry)) n) (now (text .entry)) (at .0)) ⌝ }
+    ensures few { λ r. ⌜ (n ≤ 32 → r .count ≤ 32) ⌝ }
 {
     let first = standing_at(text, at).0;
     let start = first + 2;
@@ -335,6 +340,7 @@ fn assignment_at(text: &[u8], vars: &mut [usize; 1120], n: usize, at: Place) -> 
 // What stood in the table before is of no matter; what a refusal leaves in it says nothing.
 pub fn preamble_at(text: &[u8], vars: &mut [usize; 1120]) -> PreambleRead
     ensures { λ r. ⌜ seenPreamble (now (text .entry)) (now (vars .exit)) r ≡ preambleOf (preambleAt 512 [] (now (text .entry)) 0) ⌝ }
+    ensures few { λ r. ⌜ r .count ≤ 32 ⌝ }
 {
     let mut count: usize = 0;
     let mut at = Place(0);

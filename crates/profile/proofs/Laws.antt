@@ -527,10 +527,11 @@ module _ (allowed : ℕ) (s : List ℕ) where
         ∙ ap (judgedBy (env s t (p .count)) s) (f ∙ ap (profilesOf allowed s) e)
         ∙ file-judged (env s t (p .count)) (λ q g. held-read s t p (record { variables = q .variables; next = q .next }) (e ∙ ap preambleOf g))
 
-    pub file-kept : Kept (env s t (p .count)) s allowed ps → r .profiles ≡ ps .profiles .table → r .count ≡ ps .profiles .count → r .rules ≡ ps .rules →
+    pub file-kept : p .count ≤ 32 → Kept (env s t (p .count)) s allowed ps → r .profiles ≡ ps .profiles .table → r .count ≡ ps .profiles .count → r .rules ≡ ps .rules →
         FileKept s t allowed r
-    file-kept k d c h =
+    file-kept n k d c h =
         record {
+          set = rw v n;
           few = rw c (k .few);
           again = rw (c, d, v) (k .again);
           rules = h ∙ k .rules ∙ ap rulesRead (f ∙ ap (profilesOf allowed s) e) ∙ rules-counted;

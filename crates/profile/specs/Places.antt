@@ -107,6 +107,7 @@ seenFile s t r =
 
 -- and what is known besides
 pub record FileKept (s t : List ℕ) (allowed : ℕ) (r : FileRead) : Type 0 where
+  pub set : r .vars ≤ 32
   pub few : r .count ≤ 32
   pub again : profilesAgain s (r .profiles) (r .count) 0 ≡ profilesFrom (env s t (r .vars)) s (r .profiles) (r .count) 0
   pub rules : r .rules ≡ ruleCount (fileWithin allowed s)

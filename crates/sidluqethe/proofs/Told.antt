@@ -1,22 +1,20 @@
 -- What reading told, as C gets it.
 use Prim.Native.Nat.{ℕ, _+_, _*_, _≤_, _<_}
 use mathlib.Core.Path.{_≡_, refl, sym, ap, subst, _∙_}
-use mathlib.Core.List.{List, _++_}
+use mathlib.Core.List.{List, [], _++_}
 use mathlib.Core.Bool.{Bool, true, false, not, _||_, Bool·not-not}
-use native.Mathlib.Omega.{arith}
 use borrow.Author.Tests.{lt-ltb, le-ltb}
-use lib.ListN.{length, getD, take, drop, length-map, length-take}
+use lib.ListN.{length, getD, drop}
 use lib.Dec.{ltb}
 use Rattle.scan.specs.Bytes.{if_then_else_}
 use Rattle.text.specs.Reading.{nowhere}
 use Rattle.answer.specs.Answers.{refusal}
 use Rattle.answer.specs.declared.Answer.{Answer}
-use Rattle.entries.specs.Entries.{Policy, Told, Short, Rejected, Accepted, entryOf, policyIn}
+use Rattle.entries.specs.Entries.{Policy, Told, Short, Rejected, Accepted, numbersIn, numbersOf, policyIn}
 use Rattle.entries.specs.Filled.{toldBy}
 use Rattle.entries.specs.declared.Reading.{Reading}
-use Rattle.flat.specs.Layout.{recordsIn, roomIn}
+use Rattle.flat.specs.Layout.{recordsIn}
 use Rattle.flat.specs.Filled.{FilledIn}
-use Rattle.flat.proofs.Walk.{records-length}
 use Rattle.layout.specs.Layout.{laidOut}
 use Rattle.sidluqethe.specs.Told.{FilledBy, bytesTold, readInto, toldIn}
 
@@ -28,25 +26,18 @@ refusalTold r = if r .refused then refusal (r .refusal) else refusal (nowhere 0)
 abbrev pub Promised : (text memory buffer : List ℕ) (n : ℕ) (buffer′ memory′ : List ℕ) → Told → Type 0
 Promised text memory buffer n buffer′ memory′ t = (n ≡ bytesTold t) × ((buffer′ ≡ toldIn buffer t) × FilledBy text memory t memory′)
 
--- as many records are told as are counted
-entries-counted : (text memory m : List ℕ) (r : Reading) → FilledIn text memory r m → r .count ≡ getD m 1250 0 →
-    length (policyIn text m (recordsIn m) .entries) ≡ r .count
-unfolding policyIn
-entries-counted text memory m r f e =
-    length-map (take (getD m 1250 0) (recordsIn m)) (entryOf text)
-    ∙ length-take (getD m 1250 0) (recordsIn m)
-    ∙ omega (arith, e, f .room, records-length (roomIn (length m)) m 1256, ap roomIn (f .size))
-
 told-filled : (text memory m : List ℕ) (r : Reading) → FilledIn text memory r m → FilledBy text memory (toldBy r (policyIn text m (recordsIn m))) m
 unfolding toldBy
-told-filled text memory m r f = go (r .short) (r .refused) (f .count) (f .beyond)
+told-filled text memory m r f = go (r .short) (r .refused) (f .counted) (f .count) (f .beyond)
   where
-    go : (a b : Bool) → r .count ≡ (if a || b then 0 else getD m 1250 0) →
+    go : (a b : Bool) → (if a || b then [] else numbersIn m) ≡ (if a || b then [] else numbersOf (policyIn text m (recordsIn m))) → r .count ≡ (if a || b then 0 else getD m 1250 0) →
         drop (if a || b then 0 else 1256 + 12 * r .count) m ≡ drop (if a || b then 0 else 1256 + 12 * r .count) memory →
         FilledBy text memory (if a then Short else if b then Rejected (r .refusal) else Accepted (policyIn text m (recordsIn m))) m
-    go true b e d = d
-    go false true e d = d
-    go false false e d = (refl, rw (entries-counted text memory m r f e) d)
+    go true b c e d = d
+    go false true c e d = d
+    go false false c e d =
+        let n : getD m 1250 0 ≡ length (policyIn text m (recordsIn m) .entries) = ap (λ (l : List ℕ). getD l 2 0) c in
+        (refl, c, rw (← n, ← e) d)
 
 told-laid : (buffer : List ℕ) (r : Reading) (p : Policy) → r .short ≡ false →
     (268 ≡ bytesTold (toldBy r p)) × (laidOut (refusalTold r) ++ drop 268 buffer ≡ toldIn buffer (toldBy r p))

@@ -7,7 +7,7 @@ use lib.Dec.{ltb}
 use Rattle.scan.specs.Bytes.{if_then_else_}
 use Rattle.text.specs.Reading.{nowhere}
 use Rattle.answer.specs.Answers.{refusal}
-use Rattle.entries.specs.Entries.{Told, Short, Rejected, Accepted, policyIn, readOf}
+use Rattle.entries.specs.Entries.{Told, Short, Rejected, Accepted, numbersIn, numbersOf, policyIn, readOf}
 use Rattle.flat.specs.Layout.{recordsIn, roomIn}
 use Rattle.layout.specs.Layout.{laidOut}
 use Rattle.glob.specs.declared.Matched.{Matched}
@@ -34,6 +34,7 @@ FilledBy text memory Short memory′ = memory′ ≡ memory
 FilledBy text memory (Rejected r) memory′ = memory′ ≡ memory
 FilledBy text memory (Accepted p) memory′ =
     (policyIn text memory′ (recordsIn memory′) ≡ p)
+    × (numbersIn memory′ ≡ numbersOf p)
     × (drop (1256 + 12 * length (p .entries)) memory′ ≡ drop (1256 + 12 * length (p .entries)) memory)
 
 -- 0 where nothing matches, 1 where something does, 2 where it does so exactly

@@ -1,4 +1,5 @@
 use denote.Ref.{now}
+use native.Mathlib.Omega.{arith}
 use mathlib.Core.Path.{sym, ap, _∙_}
 use Rattle.scan.specs.Bytes.{span}
 use Rattle.text.specs.Places.{refusedBy}
@@ -40,7 +41,7 @@ returns c =
     let c-operator-at = c .before .before .before .before .before .before .operator-at in
     let c-in-line-at = c .before .before .before .before .before .before .before .in-line-at in
     let c-args = c .before .before .before .before .before .before .before .before .before .args in
-    c .refused-at .ensures _ _ ∙ ap refusedBy (c .before .before .stop-of .ensures) ∙ sym (name-missing (env (now (c-args .text)) (now (c-args .vars)) (c-args .n)) (now (c-args .text)) (span (now (c-args .text)) (c-args .start) (c-args .end)) (c-args .start) (c-args .end) (c-in-line-at .result) (c-operator-at .result) (c-in-line-at .ensures) (c-operator-at .ensures) (c .before .before .before .before .enum-told .given .1) (c .before .before .before .next-token .result) (c .before .before .before .next-token .ensures))
+    (c .refused-at .ensures .0 _ _ ∙ ap refusedBy (c .before .before .stop-of .ensures) ∙ sym (name-missing (env (now (c-args .text)) (now (c-args .vars)) (c-args .n)) (now (c-args .text)) (span (now (c-args .text)) (c-args .start) (c-args .end)) (c-args .start) (c-args .end) (c-in-line-at .result) (c-operator-at .result) (c-in-line-at .ensures) (c-operator-at .ensures) (c .before .before .before .before .enum-told .given .1) (c .before .before .before .next-token .result) (c .before .before .before .next-token .ensures)), λ _. omega (arith, c .refused-at .ensures .1))
 
 after-operator-requires : tie.Need-after-operator-requires
 after-operator-requires c κs = search needs
@@ -51,7 +52,7 @@ returns-2 c =
     let c-operator-at = c .before .before .before .before .before .operator-at in
     let c-in-line-at = c .before .before .before .before .before .before .in-line-at in
     let c-args = c .before .before .before .before .before .before .before .before .args in
-    rw (name-found (env (now (c-args .text)) (now (c-args .vars)) (c-args .n)) (now (c-args .text)) (span (now (c-args .text)) (c-args .start) (c-args .end)) (c-args .start) (c-args .end) (c-in-line-at .result) (c-operator-at .result) (c-in-line-at .ensures) (c-operator-at .ensures) (c-operator .given .0 .0) (c-operator .given .0 .1 .0) (c-operator .given .1)) (c .after-operator .ensures)
+    (rw (name-found (env (now (c-args .text)) (now (c-args .vars)) (c-args .n)) (now (c-args .text)) (span (now (c-args .text)) (c-args .start) (c-args .end)) (c-args .start) (c-args .end) (c-in-line-at .result) (c-operator-at .result) (c-in-line-at .ensures) (c-operator-at .ensures) (c-operator .given .0 .0) (c-operator .given .0 .1 .0) (c-operator .given .1)) (c .after-operator .ensures .0), c .after-operator .ensures .1)
 
 pub after-name-spec : {M : Type 1} → statement M
 after-name-spec =

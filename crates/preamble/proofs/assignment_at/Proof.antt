@@ -1,4 +1,5 @@
 use denote.Ref.{now}
+use native.Mathlib.Omega.{arith}
 use mathlib.Core.Path.{sym, ap, _∙_}
 use Rattle.scan.specs.Bytes.{bytes}
 use Rattle.scan.proofs.Laws.{begins-lt}
@@ -39,7 +40,7 @@ returns c =
     let a = c .before .before .before .before .before .before .before .before .before .args in
     let first = c .before .before .before .before .before .before .before .standing-at in
     let end = c .before .before .before .before .before .before .name-end in
-    c .refused-at .ensures _ _ ∙ sym (assignment-bad (env (now (a .text)) (now (a .vars)) (a .n)) (now (a .text)) (a .at .0) (first .result .0) (end .result) (first .ensures) (end .ensures) (sym (c .before .before .before .before .before .begins-at .ensures) ∙ c .before .before .before .before .if1 .taken) (c .before .before .variable-fault .result) (c .before .before .variable-fault .ensures ∙ ap variableFault (c .before .before .before .span .ensures)) (c .before .if2 .taken))
+    (c .refused-at .ensures .0 _ _ ∙ sym (assignment-bad (env (now (a .text)) (now (a .vars)) (a .n)) (now (a .text)) (a .at .0) (first .result .0) (end .result) (first .ensures) (end .ensures) (sym (c .before .before .before .before .before .begins-at .ensures) ∙ c .before .before .before .before .if1 .taken) (c .before .before .variable-fault .result) (c .before .before .variable-fault .ensures ∙ ap variableFault (c .before .before .before .span .ensures)) (c .before .if2 .taken)), λ _. omega (arith, c .refused-at .ensures .1))
 
 after-name-requires : tie.Need-after-name-requires
 after-name-requires c κs = begins-lt 125 (now (c .before .before .before .before .before .before .before .before .before .args .text)) _ (sym (c .before .before .before .before .before .begins-at .ensures) ∙ c .before .before .before .before .if1 .taken)
@@ -49,7 +50,7 @@ returns-2 c =
     let a = c .before .before .before .before .before .before .before .before .before .before .args in
     let first = c .before .before .before .before .before .before .before .before .standing-at in
     let end = c .before .before .before .before .before .before .before .name-end in
-    assignment-good (env (now (a .text)) (now (a .vars)) (a .n)) (now (a .text)) (a .at .0) (first .result .0) (end .result) (first .ensures) (end .ensures) (sym (c .before .before .before .before .before .before .begins-at .ensures) ∙ c .before .before .before .before .before .if1 .taken) (c .before .before .before .variable-fault .result) (c .before .before .before .variable-fault .ensures ∙ ap variableFault (c .before .before .before .before .span .ensures)) (c .before .before .if2 .left) (c .after-name .ensures)
+    (assignment-good (env (now (a .text)) (now (a .vars)) (a .n)) (now (a .text)) (a .at .0) (first .result .0) (end .result) (first .ensures) (end .ensures) (sym (c .before .before .before .before .before .before .begins-at .ensures) ∙ c .before .before .before .before .before .if1 .taken) (c .before .before .before .variable-fault .result) (c .before .before .before .variable-fault .ensures ∙ ap variableFault (c .before .before .before .before .span .ensures)) (c .before .before .if2 .left) (c .after-name .ensures .0), c .after-name .ensures .1)
 
 refused-at-requires-2 : tie.Need-refused-at-requires-2
 refused-at-requires-2 c κs = search needs
@@ -59,7 +60,7 @@ returns-3 c =
     let a = c .before .before .before .before .before .before .args in
     let first = c .before .before .before .before .standing-at in
     let end = c .before .before .before .name-end in
-    c .refused-at2 .ensures _ _ ∙ sym (assignment-open (env (now (a .text)) (now (a .vars)) (a .n)) (now (a .text)) (a .at .0) (first .result .0) (end .result) (first .ensures) (end .ensures) (sym (c .before .before .begins-at .ensures) ∙ c .before .if1 .left))
+    (c .refused-at2 .ensures .0 _ _ ∙ sym (assignment-open (env (now (a .text)) (now (a .vars)) (a .n)) (now (a .text)) (a .at .0) (first .result .0) (end .result) (first .ensures) (end .ensures) (sym (c .before .before .begins-at .ensures) ∙ c .before .if1 .left)), λ _. omega (arith, c .refused-at2 .ensures .1))
 
 pub assignment-at-spec : {M : Type 1} → statement M
 assignment-at-spec =

@@ -25,7 +25,7 @@ returns c =
     let c-if1 = c .before .before .before .if1 in
     let c-args = c .before .before .before .before .before .args in
     let c-pre = c .before .before .before .before .before .pre in
-    let a = c-args in let s = now (a .text) in let t = now (a .vars) in let name = span s (a .start) (a .end) in let p : nameFault (env s t (a .n)) true name ≡ 0 = rw (c-if1 .taken) at c-pre in rw (c-if1 .taken) (opening-adds s t (a .n) name (c .named .result) p (c .named .ensures))
+    let a = c-args in let s = now (a .text) in let t = now (a .vars) in let name = span s (a .start) (a .end) in let p : nameFault (env s t (a .n)) true name ≡ 0 = rw (c-if1 .taken) at c-pre in (rw (c-if1 .taken) (opening-adds s t (a .n) name (c .named .result) p (c .named .ensures)), λ h. h)
 
 with-name-requires : tie.Need-with-name-requires
 with-name-requires c κs = search needs
@@ -42,7 +42,7 @@ returns-2 c =
     let c-if1 = c .before .before .if1 in
     let c-args = c .before .before .before .before .args in
     let c-pre = c .before .before .before .before .pre in
-    let a = c-args in let s = now (a .text) in let t = now (a .vars) in let name = span s (a .start) (a .end) in let p : nameFault (env s t (a .n)) false name ≡ 0 = rw (c-if1 .left) at c-pre in rw (c-if1 .left) (opening-sets s t _ (a .n) (a .start) (a .end) p (c .with-name .ensures))
+    let a = c-args in let s = now (a .text) in let t = now (a .vars) in let name = span s (a .start) (a .end) in let p : nameFault (env s t (a .n)) false name ≡ 0 = rw (c-if1 .left) at c-pre in (rw (c-if1 .left) (opening-sets s t _ (a .n) (a .start) (a .end) p (c .with-name .ensures)), λ _. omega (arith, unset-number s t (a .n) name p .1))
 
 pub open-name-spec : {M : Type 1} → statement M
 open-name-spec =

@@ -1,5 +1,7 @@
 use borrow.Author.Needs.{needs}
 use denote.Ref.{now}
+use Prim.Native.Nat.{_≤_}
+use native.Mathlib.Omega.{arith}
 use mathlib.Core.Path.{_≡_, refl, sym, ap, _∙_}
 use mathlib.Core.List.{[]}
 use Rattle.scan.specs.Bytes.{bytes}
@@ -11,14 +13,15 @@ use Rattle.preamble.proofs.preamble_at.Statement.{statement}
 use Rattle.preamble.proofs.preamble_at.Tie as tie
 
 abbrev Inv-loop : tie.InvT-loop
-Inv-loop text vars₀ count₀ at₀ left₀ t7 vars count at left = preambleOf (preambleAt left (env text vars count) text (at .0)) ≡ preambleOf (preambleAt 512 [] text 0)
+Inv-loop text vars₀ count₀ at₀ left₀ t7 vars count at left =
+    (preambleOf (preambleAt left (env text vars count) text (at .0)) ≡ preambleOf (preambleAt 512 [] text 0)) × (count ≤ 32)
 
 abbrev μ-loop : tie.MeasureT-loop
 μ-loop text vars₀ count₀ at₀ left₀ t7 vars count at left = left
 
 loop-holds : tie.Need-loop-holds Inv-loop μ-loop
 unfolding variables
-loop-holds c = refl
+loop-holds c = (refl, omega arith)
 
 slice-aggregate-stands-at : tie.Need-slice-aggregate-stands-at Inv-loop μ-loop
 slice-aggregate-stands-at c = search needs
@@ -36,7 +39,7 @@ returns c =
     let c-stands-at = c .before .before .before .before .stands-at in
     let c-loop = c .before .before .before .before .before .before .loop in
     let c-args = c .before .before .before .before .before .before .before .before .args in
-    turn-refused (now (c-args .text)) (c-loop .vars) (c-loop .count) (c-loop .at .0) (c-loop .left) (c-loop .inv) (sym (c-stands-at .ensures) ∙ c .before .before .before .if1 .taken) _ (c .before .assignment-at .result) (c .before .assignment-at .ensures) (c .if2 .taken)
+    (turn-refused (now (c-args .text)) (c-loop .vars) (c-loop .count) (c-loop .at .0) (c-loop .left) (c-loop .inv .0) (sym (c-stands-at .ensures) ∙ c .before .before .before .if1 .taken) _ (c .before .assignment-at .result) (c .before .assignment-at .ensures .0) (c .if2 .taken), c .before .assignment-at .ensures .1 (c-loop .inv .1))
 
 standing-at-requires : tie.Need-standing-at-requires Inv-loop μ-loop
 standing-at-requires c κs = search needs
@@ -51,7 +54,7 @@ returns-2 c =
     let c-stands-at = c .before .before .before .before .before .before .before .stands-at in
     let c-loop = c .before .before .before .before .before .before .before .before .before .loop in
     let c-args = c .before .before .before .before .before .before .before .before .before .before .before .args in
-    c .refused-at .ensures _ _ ∙ turn-full (now (c-args .text)) (c-loop .vars) (c-loop .count) (c-loop .at .0) (c-loop .left) (c-loop .inv) (sym (c-stands-at .ensures) ∙ c .before .before .before .before .before .before .if1 .taken) _ (c-assignment-at .result) (c-assignment-at .ensures) (c .before .before .before .if2 .left) (c .before .before .if3 .taken) (c .before .standing-at .ensures)
+    (c .refused-at .ensures .0 _ _ ∙ turn-full (now (c-args .text)) (c-loop .vars) (c-loop .count) (c-loop .at .0) (c-loop .left) (c-loop .inv .0) (sym (c-stands-at .ensures) ∙ c .before .before .before .before .before .before .if1 .taken) _ (c-assignment-at .result) (c-assignment-at .ensures .0) (c .before .before .before .if2 .left) (c .before .before .if3 .taken) (c .before .standing-at .ensures), omega (arith, c .refused-at .ensures .1))
 
 sub-left : tie.Need-sub-left Inv-loop μ-loop
 sub-left c = search needs
@@ -66,13 +69,13 @@ loop-again c =
     let c-stands-at = c .before .before .before .before .before .before .stands-at in
     let c-loop = c .before .before .before .before .before .before .before .before .loop in
     let c-args = c .before .before .before .before .before .before .before .before .before .before .args in
-    turn-more (now (c-args .text)) (c-loop .vars) (c-loop .count) (c-loop .at .0) (c-loop .left) (c-loop .inv) (sym (c-stands-at .ensures) ∙ c .before .before .before .before .before .if1 .taken) _ (c-assignment-at .result) (c-assignment-at .ensures) (c .before .before .if2 .left) (c .before .if3 .left)
+    (turn-more (now (c-args .text)) (c-loop .vars) (c-loop .count) (c-loop .at .0) (c-loop .left) (c-loop .inv .0) (sym (c-stands-at .ensures) ∙ c .before .before .before .before .before .if1 .taken) _ (c-assignment-at .result) (c-assignment-at .ensures .0) (c .before .before .if2 .left) (c .before .if3 .left), c-assignment-at .ensures .1 (c-loop .inv .1))
 
 returns-3 : tie.Need-returns-3 Inv-loop μ-loop
 unfolding bytes seenPreamble preambleOf
 returns-3 c =
     let c-loop = c .before .before .before .loop in
-    sym (ap preambleOf (preamble-none _ _ _ (c-loop .left) (sym (c .before .stands-at .ensures) ∙ c .if1 .left))) ∙ c-loop .inv
+    (sym (ap preambleOf (preamble-none _ _ _ (c-loop .left) (sym (c .before .stands-at .ensures) ∙ c .if1 .left))) ∙ c-loop .inv .0, c-loop .inv .1)
 
 pub preamble-at-spec : {M : Type 1} → statement M
 preamble-at-spec =

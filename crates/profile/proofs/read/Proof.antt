@@ -27,8 +27,8 @@ returns c =
     let c-preamble-at = c .before .before .before .before .before .before .before .before .before .before .before .before .before .preamble-at in
     let s = now (c .before .before .before .before .before .before .before .before .before .before .before .before .before .before .before .before .args .text) in
     rw (← c-least .ensures) (
-      file-read (c-least .result) s _ (c-preamble-at .result) (c-profiles-of .result) (c-preamble-at .ensures) (c-profiles-of .ensures .0) _ refl refl (c .refusal-of .ensures) refl refl,
-      file-kept (c-least .result) s _ (c-preamble-at .result) (c-profiles-of .result) (c-preamble-at .ensures) (c-profiles-of .ensures .0) _ refl (c-profiles-of .ensures .1) refl refl refl,
+      file-read (c-least .result) s _ (c-preamble-at .result) (c-profiles-of .result) (c-preamble-at .ensures .0) (c-profiles-of .ensures .0) _ refl refl (c .refusal-of .ensures) refl refl,
+      file-kept (c-least .result) s _ (c-preamble-at .result) (c-profiles-of .result) (c-preamble-at .ensures .0) (c-profiles-of .ensures .0) _ refl (c-preamble-at .ensures .1) (c-profiles-of .ensures .1) refl refl refl,
     )
 
 pub read-spec : {M : Type 1} → statement M
