@@ -11,16 +11,13 @@ returns c = sym (bad-empty (now (c .before .before .args .path)) (c .if1 .taken)
 shared-slice-read-result : tie.Need-shared-slice-read-result
 shared-slice-read-result c = search needs
 
-holds-byte-requires : tie.Need-holds-byte-requires
-holds-byte-requires c κs = search needs
-
-is-doubled-requires : tie.Need-is-doubled-requires
-is-doubled-requires c κs = search needs
+is-broken-requires : tie.Need-is-broken-requires
+is-broken-requires c κs = search needs
 
 returns-2 : tie.Need-returns-2
-returns-2 c = sym (bad-more (now (c .before .before .before .before .before .args .path)) (c .before .before .before .if1 .left) ∙ rw (← c .before .holds-byte .ensures, ← c .is-doubled .ensures))
+returns-2 c = sym (bad-more (now (c .before .before .before .before .args .path)) (c .before .before .if1 .left) ∙ rw (← c .is-broken .ensures))
 
 pub is-bad-path-spec : {M : Type 1} → statement M
 is-bad-path-spec =
     tie.close
-    (tie.spec returns shared-slice-read-result holds-byte-requires is-doubled-requires returns-2)
+    (tie.spec returns shared-slice-read-result is-broken-requires returns-2)
