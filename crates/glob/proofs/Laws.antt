@@ -2,13 +2,14 @@
 use Prim.Native.Nat.{ℕ, zero, suc, _+_, _-_, _≤_, _<_}
 use Prim.Native.Char.{code}
 use mathlib.Core.Path.{_≡_, refl, sym, ap, ap₂, _∙_}
-use mathlib.Core.List.{List, [], _∷_, map}
+use mathlib.Core.Logic.{_⊎_, inl, inr}
+use mathlib.Core.List.{List, [], _∷_, _++_, map}
 use mathlib.Core.Bool.{Bool, true, false, not, _&&_, _||_, false≢true, and-false, or-assoc, or-false}
 use native.Mathlib.Nat.{not-suc-le-zero}
 use native.Mathlib.Numerals.{add-one}
 use native.Mathlib.Omega.{arith}
-use lib.ListN.{length, getD, take, drop, length-drop, length-map, drop-of-length-le}
-use lib.Seq.{take-all, drop-cons}
+use lib.ListN.{length, getD, take, drop, length-drop, length-map, length-take, take-append-drop, drop-of-length-le}
+use lib.Seq.{take-all, take-take, drop-cons}
 use lib.Dec.{eqb, ltb}
 use borrow.Author.Tests.{eq-eqb, ne-eqb, eqb-true, eqb-false, ltb-true, ltb-false, le-leb, leb-true, not-true}
 use Rattle.scan.specs.Bytes.{every, some, holds, span, if_then_else_}
@@ -30,8 +31,8 @@ use Rattle.faults.proofs.Laws.{faults-known}
 use Rattle.expand.specs.Write.{textFits, Written, Drafted}
 use Rattle.expand.specs.declared.Draft.{Draft}
 use Rattle.codes.specs.declared.Held.{Held}
-use Rattle.codes.specs.Held.{heldByte, heldWild, heldPiece, heldPieces, differs}
-use Rattle.codes.proofs.Laws.{held-over}
+use Rattle.codes.specs.Held.{heldNone, heldByte, heldWild, heldPiece, heldPieces, differs}
+use Rattle.codes.proofs.Laws.{held-then, held-over, held-gone}
 use Rattle.matcher.proofs.Laws.{matches-nil, matches-one}
 use Rattle.matcher.specs.Match.{matches, matchesSome, matchesExactly}
 use Rattle.matcher.specs.Walk.{pathFits}
@@ -47,19 +48,11 @@ use Rattle.glob.specs.Glob.{noMatch, matchedOf, matchedBy, someBelow, ma
 
 -- ---- one expansion
 
-pub expansion-matched : (text path : List ℕ) (slash : Bool) (x : List Piece) {out end : List ℕ} {r : ℕ} {literal found : Bool} {left : List Piece} →
-    (textFits text && pathFits path) ≡ true → Written text out end r (if textFits text then x else []) → length out ≡ 1024 →
-    literal ≡ every isLiteral (map (decode text) (take r end)) → left ≡ joinedAfter slash (map (decode text) (take r end)) →
-    found ≡ (pathFits path && matches left path) → _≡_ {A = Matched} (record { some = found; exact = literal && found }) (matchedBy slash (take 1024 x) path)
+pub codes-matched : (path : List ℕ) (slash : Bool) (x : List Piece) {literal found : Bool} {left : List Piece} → pathFits path ≡ true →
+    literal ≡ every isLiteral x → left ≡ joinedAfter slash x → found ≡ (pathFits path && matches left path) →
+    _≡_ {A = Matched} (record { some = found; exact = literal && found }) (matchedBy slash x path)
 unfolding matchedBy
-expansion-matched text path slash x {end = end} {r = r} fits w room l j f =
-    let v : map (decode text) (take r end) ≡ take 1024 x = w .all ∙ rw (room, and-left (textFits text) (pathFits path) fits) in
-    rw (l, f, and-right (textFits text) (pathFits path) fits, j, v)
-
--- what is drafted and not given up is written
-pub draft-written : (text path : List ℕ) (slash : Bool) (xs : List Piece) {out end : List ℕ} {r : Draft} → Drafted text out end slash path r xs → r .gone ≡ false →
-    Written text out end (r .count) xs
-draft-written text path slash xs d g = rw g at (d .written)
+codes-matched path slash x fits l j f = rw (l, f, fits, j)
 
 -- where one of its first literals differs from the path, it does not match
 module _ (path : List ℕ) where
@@ -103,13 +96,32 @@ module _ (path : List ℕ) where
       go true false q here later h = byte-none c ps at true later (ltb at (length path)) (eqb (getD path at 0) c) refl refl h
       go false t q here later h = byte-none c ps at false later (ltb at (length path)) (eqb (getD path at 0) c) refl refl h
 
-pub expansion-gone : (text path : List ℕ) (slash : Bool) (x : List Piece) {out end : List ℕ} {r : Draft} → (textFits text && pathFits path) ≡ true →
-    Drafted text out end slash path r (if textFits text then x else []) → length out ≡ 1024 → r .gone ≡ true → noMatch ≡ matchedBy slash (take 1024 x) path
-unfolding matchedBy
-expansion-gone text path slash x fits d room g =
-    let q : differs slash path (take 1024 x) ≡ true =
-    rw (room, and-left (textFits text) (pathFits path) fits) at (sym (d .gone) ∙ g) in
-    rw (differs-from path (take 1024 x) 0 slash q, and-false)
+-- what was drafted of an expansion to a buffer of at most 1,024 places
+module _ (text path : List ℕ) (slash : Bool) (x : List Piece) {out end : List ℕ} {r : Draft} (fits : (textFits text && pathFits path) ≡ true)
+    (d : Drafted text out end slash path r (if textFits text then x else [])) (room : length out ≤ 1024) where
+  -- it was given up
+  pub draft-gone : r .gone ≡ true → noMatch ≡ matchedBy slash (take 1024 x) path
+  unfolding matchedBy
+  draft-gone g =
+      let k = length out in
+      let q : differs slash path (take k x) ≡ true = rw (and-left (textFits text) (pathFits path) fits) at (sym (d .gone) ∙ g) in
+      let e : take k x ++ drop k (take 1024 x) ≡ take 1024 x = rw (take-take k 1024 x room) at (take-append-drop k (take 1024 x)) in
+      let h : differs slash path (take 1024 x) ≡ true =
+      rw (← e) (ap (λ (z : Held). z .gone) (held-then path (heldNone slash) (take k x) (drop k (take 1024 x)) ∙ held-gone path (heldPieces path (heldNone slash) (take k x)) (drop k (take 1024 x)) q) ∙ q) in
+      rw (differs-from path (take 1024 x) 0 slash h, and-false)
+
+  module _ (g : r .gone ≡ false) where
+    written : Written text out end (r .count) x
+    written = rw (g, and-left (textFits text) (pathFits path) fits) at (d .written)
+
+    -- there was room for all of it
+    pub draft-whole : (length out ≡ 1024) ⊎ (r .count < length out) → map (decode text) (take (r .count) end) ≡ take 1024 x
+    draft-whole (inl e) = written .all ∙ rw e
+    draft-whole (inr h) =
+        let n : length (take (r .count) end) ≡ length (take (length out) x) = sym (length-map (take (r .count) end) (decode text)) ∙ ap length (written .all) in
+        let l : length x ≤ r .count =
+        omega (arith, n, length-take (r .count) end, length-take (length out) x, written .size, written .fits) in
+        written .all ∙ take-all (length out) x (omega arith) ∙ sym (take-all 1024 x (omega arith))
 
 -- ---- all expansions, by number
 

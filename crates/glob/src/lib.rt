@@ -12,13 +12,19 @@ use scan::holds_byte;
 use scan::span;
 ghost use mathlib.Core.Path.{_≡_};
 ghost use mathlib.Core.Bool.{true, false, _&&_};
+ghost use mathlib.Core.List.{map};
+ghost use lib.ListN.{take};
 ghost use Rattle.scan.specs.Bytes.{holds, span, if_then_else_};
+ghost use Rattle.pattern.specs.Codes.{decode};
 ghost use Rattle.pattern.specs.Table.{env};
 ghost use Rattle.sizes.specs.Numbered.{patternBy};
 ghost use Rattle.expand.specs.Write.{textFits};
 ghost use Rattle.matcher.specs.Walk.{pathFits};
 ghost use Rattle.front.specs.Front.{leadOf};
-ghost use Rattle.glob.specs.Glob.{matchedOf, matchedAt, matchedAll, matchedBehind, matchedIn};
+ghost use Rattle.glob.specs.Glob.{matchedOf, matchedBy, matchedAt, matchedAll, matchedBehind, matchedIn};
+
+// How many codes the buffer has that expansions are written to; it is cleared once for all of them. Few are longer behind their front.
+const SHORT: usize = 128;
 
 // Whether some expansion matches, and whether one of literals only does.
 pub struct Matched {
@@ -26,8 +32,48 @@ pub struct Matched {
     pub exact: bool,
 }
 
-// Expansion d of the pattern from a to before e against a path, where a / stands before it, or not.
-// Its codes are written over a lent buffer; where one of its first literals differs from the path it does not match.
+// The first codes of a buffer, as many as counted, against a path, where a / stands before both, or not.
+fn match_codes(text: &[u8], codes: &mut [u32], count: usize, slash: bool, path: &[u8]) -> Matched
+    requires { ⌜ pathFits (now path) ≡ true ⌝ }
+    ensures { λ r. ⌜ r ≡ matchedBy slash (map (decode (now (text .entry))) (take count (now (codes .entry)))) (now (path .entry)) ⌝ }
+{
+    let literal = is_literal(codes, count);
+    let left = join_slashes(codes, count, slash);
+    let some = matcher::matched(text, codes, left, path);
+    Matched {
+        some: some,
+        exact: literal & some,
+    }
+}
+
+// Expansion d of the pattern from a to before e against a path, where a / stands before it, or not, of up to 1,024 pieces.
+fn match_long(
+    text: &[u8],
+    vars: &[usize],
+    n: usize,
+    sizes: &[usize; 132],
+    a: usize,
+    e: usize,
+    d: usize,
+    slash: bool,
+    path: &[u8],
+) -> Matched
+    requires { ⌜ (textFits (now text) && pathFits (now path)) ≡ true ⌝ }
+    ensures { λ r. ⌜ r ≡ matchedAt slash (patternBy (now (text .entry)) (now (vars .entry)) n (now (sizes .entry)) (span (now (text .entry)) a e)) (now (path .entry)) d ⌝ }
+{
+    let mut codes = [0u32; 1024];
+    let draft = write_pattern(text, vars, n, sizes, a, e, d, slash, path, &mut codes);
+    if draft.gone {
+        return Matched {
+            some: false,
+            exact: false,
+        };
+    }
+    match_codes(text, &mut codes, draft.count, slash, path)
+}
+
+// The same of any expansion: its codes are written over a lent buffer, and one that fills it is written anew. Where one of its first
+// literals differs from the path it does not match.
 fn match_expansion(
     text: &[u8],
     vars: &[usize],
@@ -38,7 +84,7 @@ fn match_expansion(
     d: usize,
     slash: bool,
     path: &[u8],
-    codes: &mut [u32; 1024],
+    codes: &mut [u32; SHORT],
 ) -> Matched
     requires { ⌜ (textFits (now text) && pathFits (now path)) ≡ true ⌝ }
     ensures { λ r. ⌜ r ≡ matchedAt slash (patternBy (now (text .entry)) (now (vars .entry)) n (now (sizes .entry)) (span (now (text .entry)) a e)) (now (path .entry)) d ⌝ }
@@ -51,13 +97,10 @@ fn match_expansion(
         };
     }
     let count = draft.count;
-    let literal = is_literal(codes, count);
-    let left = join_slashes(codes, count, slash);
-    let some = matcher::matched(text, codes, left, path);
-    Matched {
-        some: some,
-        exact: literal & some,
+    if count < SHORT {
+        return match_codes(text, codes, count, slash, path);
     }
+    match_long(text, vars, n, sizes, a, e, d, slash, path)
 }
 
 // Each expansion in turn, up to the first of literals only that matches.
@@ -76,7 +119,7 @@ fn match_expansions(
 {
     let size = pattern_size(text, vars, n, sizes, a, e);
     let count = size.count;
-    let mut codes = [0u32; 1024];
+    let mut codes = [0u32; SHORT];
     let mut some = false;
     let mut d = 0;
     while d < count {
