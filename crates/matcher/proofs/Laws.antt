@@ -209,7 +209,7 @@ drop-some zero (b ∷ s) h = refl
 drop-some (suc k) (b ∷ s) h = drop-some k s (le-of-suc-le-suc h)
 
 -- one piece alone
-matches-only : (p : Piece) (s : List ℕ) → matches (p ∷ []) s ≡ accepts p s
+pub matches-only : (p : Piece) (s : List ℕ) → matches (p ∷ []) s ≡ accepts p s
 unfolding matches
 matches-only p s =
     some-last (λ k. accepts p (take k s) && isEmpty (drop k s)) (length s) (λ k h. rw (drop-some k s h, and-false))

@@ -1,11 +1,13 @@
 -- What one step of the walk over a path says of a piece.
 use Prim.Native.Nat.{ℕ, suc}
 use mathlib.Core.List.{List, [], _∷_}
-use mathlib.Core.Bool.{Bool, true, false, _&&_, _||_}
+use mathlib.Core.Bool.{Bool, true, false, not, _&&_, _||_}
 use lib.ListN.{length, take, drop, getD}
 use lib.Dec.{eqb, leb}
+use Rattle.scan.specs.Bytes.{if_then_else_}
 use Rattle.class.specs.Class.{inClass}
 use Rattle.pattern.specs.Pieces.{Piece, Byte, One, Star, StarStar, Class}
+use Rattle.pattern.specs.Codes.{decode}
 use Rattle.matcher.specs.Match.{accepts, noSlash, someUpTo}
 
 -- a piece takes any number of bytes, or one
@@ -24,11 +26,15 @@ takesOf Star b = noSlash b
 takesOf StarStar b = true
 takesOf (Class k) b = inClass k b
 
--- how many codes from the front are the bytes of a path: a byte is its own code
-unfoldable pub shared : (codes path : List ℕ) → ℕ
-shared [] s = 0
-shared (c ∷ cs) [] = 0
-shared (c ∷ cs) (b ∷ s) = elim (eqb c b) [ true ↦ suc (shared cs s) | false ↦ 0 ]
+-- a piece is no star and takes a byte
+abbrev pub takesOne : Piece → ℕ → Bool
+takesOne p b = not (repeatsOf p) && takesOf p b
+
+-- how many pieces from the front are no stars and take the byte of the path at their place
+unfoldable pub taken : (text codes path : List ℕ) → ℕ
+taken text [] s = 0
+taken text (c ∷ cs) [] = 0
+taken text (c ∷ cs) (b ∷ s) = if takesOne (decode text c) b then suc (taken text cs s) else 0
 
 -- the mark of a place after a piece, by those at the place before it and at it, and the new mark before it
 abbrev pub markOf : (many before here carried ok : Bool) → Bool

@@ -1,13 +1,13 @@
 // Paths against patterns.
 ghost use mathlib.Core.Path.{_≡_};
-ghost use mathlib.Core.Bool.{false, _&&_};
+ghost use mathlib.Core.Bool.{true, false, _&&_};
 ghost use mathlib.Core.List.{List, map, reverse};
 ghost use Prim.Native.Nat.{ℕ, _+_, _-_, _≤_};
 ghost use lib.ListN.{length, getD, take, drop};
 ghost use Rattle.scan.specs.Bytes.{run};
 ghost use Rattle.pattern.specs.Codes.{bracketed, decode, notClose};
-ghost use Rattle.matcher.specs.Match.{matches, someUpTo};
-ghost use Rattle.matcher.specs.Walk.{after, markOf, pathFits, repeatsOf, shared, takesOf};
+ghost use Rattle.matcher.specs.Match.{accepts, matches, someUpTo};
+ghost use Rattle.matcher.specs.Walk.{after, markOf, pathFits, repeatsOf, taken, takesOf, takesOne};
 
 // The codes of pieces: a literal is its byte; then ?, * and **; a class is the place in the text of its first byte above CLASS.
 const ONE: u32 = 256;
@@ -142,16 +142,23 @@ fn walk_marks(text: &[u8], codes: &[u32], path: &[u8]) -> bool
     marks[n]
 }
 
-// How many pieces from the front are literals with the byte of the path at their place.
-fn shared_front(codes: &[u32], path: &[u8]) -> usize
-    ensures { λ r. ⌜ r ≡ shared (now (codes .entry)) (now (path .entry)) ⌝ }
+// Whether a piece is no star and takes a byte.
+fn takes_one(text: &[u8], code: u32, b: u8) -> bool
+    ensures { λ r. ⌜ r ≡ takesOne (decode (now (text .entry)) code) b ⌝ }
+{
+    !repeats(code) & takes(text, code, b)
+}
+
+// How many pieces from the front are no stars and take the byte of the path at their place.
+fn taken_front(text: &[u8], codes: &[u32], path: &[u8]) -> usize
+    ensures { λ r. ⌜ r ≡ taken (now (text .entry)) (now (codes .entry)) (now (path .entry)) ⌝ }
 {
     let mut i = 0;
     while i < codes.len() {
         if path.len() <= i {
             return i;
         }
-        if codes[i] != path[i] as u32 {
+        if !takes_one(text, codes[i], path[i]) {
             return i;
         }
         i += 1;
@@ -159,9 +166,9 @@ fn shared_front(codes: &[u32], path: &[u8]) -> usize
     i
 }
 
-// How many pieces from the end are literals with the byte of the path at their place from its end.
-fn shared_back(codes: &[u32], path: &[u8]) -> usize
-    ensures { λ r. ⌜ r ≡ shared (reverse (now (codes .entry))) (reverse (now (path .entry))) ⌝ }
+// How many pieces from the end are no stars and take the byte of the path at their place from its end.
+fn taken_back(text: &[u8], codes: &[u32], path: &[u8]) -> usize
+    ensures { λ r. ⌜ r ≡ taken (now (text .entry)) (reverse (now (codes .entry))) (reverse (now (path .entry))) ⌝ }
 {
     let mut i = 0;
     while i < codes.len() {
@@ -170,7 +177,7 @@ fn shared_back(codes: &[u32], path: &[u8]) -> usize
         }
         let k = codes.len() - 1 - i;
         let m = path.len() - 1 - i;
-        if codes[k] != path[m] as u32 {
+        if !takes_one(text, codes[k], path[m]) {
             return i;
         }
         i += 1;
@@ -178,30 +185,42 @@ fn shared_back(codes: &[u32], path: &[u8]) -> usize
     i
 }
 
-// Whether all the pieces match the path: those before the literals that it ends with by marks.
+// Whether a star takes all of the path.
+fn takes_all(code: u32, path: &[u8]) -> bool
+    ensures { λ r. ⌜ ((text : List ℕ) → repeatsOf (decode text code) ≡ true → r ≡ accepts (decode text code) (now (path .entry))) ⌝ }
+{
+    (code == STAR_STAR) | !scan::holds_byte(path, b'/')
+}
+
+// Whether all the pieces match the path: from its end they are compared up to a star. A star left alone must take all of the rest,
+// and where there are more pieces they are walked by marks.
 fn walk_back(text: &[u8], codes: &[u32], path: &[u8]) -> bool
     requires { ⌜ length (now path) ≤ 4095 ⌝ }
     ensures { λ r. ⌜ r ≡ matches (map (decode (now (text .entry))) (now (codes .entry))) (now (path .entry)) ⌝ }
 {
-    let n = shared_back(codes, path);
+    let n = taken_back(text, codes, path);
     let k = codes.len() - n;
     let m = path.len() - n;
     if 0 < k {
-        if codes[k - 1] < ONE {
+        let last = codes[k - 1];
+        if !repeats(last) {
             return false;
+        }
+        if k == 1 {
+            return takes_all(last, &path[..m]);
         }
     }
     walk_marks(text, &codes[..k], &path[..m])
 }
 
-// Whether all the pieces match the path: the literals that it begins with are compared, and what is left walked from the back.
+// Whether all the pieces match the path: from its front they are compared up to a star, and what is left walked from the back.
 fn walk(text: &[u8], codes: &[u32], path: &[u8]) -> bool
     requires { ⌜ length (now path) ≤ 4095 ⌝ }
     ensures { λ r. ⌜ r ≡ matches (map (decode (now (text .entry))) (now (codes .entry))) (now (path .entry)) ⌝ }
 {
-    let n = shared_front(codes, path);
+    let n = taken_front(text, codes, path);
     if n < codes.len() {
-        if codes[n] < ONE {
+        if !repeats(codes[n]) {
             return false;
         }
         return walk_back(text, &codes[n..], &path[n..]);

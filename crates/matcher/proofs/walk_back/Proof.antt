@@ -2,36 +2,56 @@ use borrow.Author.Needs.{needs}
 use denote.Ref.{now}
 use mathlib.Core.Path.{sym, _∙_}
 use native.Mathlib.Omega.{arith}
+use borrow.Author.Tests.{not-true, not-false}
 use lib.ListN.{length-take}
 use lib.Seq.{length-take-le}
-use Rattle.matcher.proofs.Back.{back-le, back-left, back-dead}
+use Rattle.matcher.proofs.Back.{back-le, back-left, back-dead, back-only}
 use Rattle.matcher.proofs.walk_back.Statement.{statement}
 use Rattle.matcher.proofs.walk_back.Tie as tie
 
-shared-back-requires : tie.Need-shared-back-requires
-shared-back-requires c κs = search needs
+taken-back-requires : tie.Need-taken-back-requires
+taken-back-requires c κs = search needs
 
 sub-k : tie.Need-sub-k
-sub-k c = omega (arith, c .shared-back .ensures, back-le (now (c .before .before .before .before .args .codes)) (now (c .before .before .before .before .args .path)))
+sub-k c =
+    let a = c .before .before .before .before .args in
+    omega (arith, c .taken-back .ensures, back-le (now (a .text)) (now (a .codes)) (now (a .path)))
 
 sub-m : tie.Need-sub-m
-sub-m c = omega (arith, c .shared-back .ensures, back-le (now (c .before .before .before .before .args .codes)) (now (c .before .before .before .before .args .path)))
+sub-m c =
+    let a = c .before .before .before .before .args in
+    omega (arith, c .taken-back .ensures, back-le (now (a .text)) (now (a .codes)) (now (a .path)))
 
-sub-if2 : tie.Need-sub-if2
-sub-if2 c = search needs
+sub-last : tie.Need-sub-last
+sub-last c = search needs
 
-mul-if2 : tie.Need-mul-if2
-mul-if2 c = search needs
+mul-last : tie.Need-mul-last
+mul-last c = search needs
 
-shared-slice-read-if2 : tie.Need-shared-slice-read-if2
-shared-slice-read-if2 c = search needs
+shared-slice-read-last : tie.Need-shared-slice-read-last
+shared-slice-read-last c = search needs
+
+repeats-requires : tie.Need-repeats-requires
+repeats-requires c κs = search needs
 
 returns : tie.Need-returns
 returns c =
-    let a = (c .before .before .before .before .before .before .before .args) in
-    sym
-    (back-dead (now (a .text)) (now (a .codes)) (now (a .path)) (c .before .before .before .shared-back .result) (c .before .before .before .shared-back .ensures) (λ k. omega (arith, c .before .before .before .before .shared-slice-known3 .given k))
-    (omega arith) (c .if2 .taken))
+    let a = c .before .before .before .before .before .before .before .before .args in
+    let n = c .before .before .before .before .taken-back in
+    sym (back-dead (now (a .text)) (now (a .codes)) (now (a .path)) (n .result) (n .ensures) (omega arith) (sym (c .before .repeats .ensures (now (a .text))) ∙ not-true _ (c .if2 .taken)))
+
+slice-aggregate-takes-all : tie.Need-slice-aggregate-takes-all
+slice-aggregate-takes-all c = sym (length-take-le _ _ (omega arith))
+
+takes-all-requires : tie.Need-takes-all-requires
+takes-all-requires c κs = search needs
+
+returns-2 : tie.Need-returns-2
+returns-2 c =
+    let a = c .before .before .before .before .before .before .before .before .before .before .before .args in
+    let n = c .before .before .before .before .before .before .before .taken-back in
+    c .takes-all .ensures (now (a .text)) (sym (c .before .before .before .before .repeats .ensures (now (a .text))) ∙ not-false _ (c .before .before .before .if2 .left))
+    ∙ sym (back-only (now (a .text)) (now (a .codes)) (now (a .path)) (n .result) (n .ensures) (c .before .before .if3 .taken))
 
 slice-aggregate-walk-marks : tie.Need-slice-aggregate-walk-marks
 slice-aggregate-walk-marks c = sym (length-take-le _ _ (omega arith))
@@ -42,24 +62,28 @@ slice-aggregate-walk-marks-2 c = sym (length-take-le _ _ (omega arith))
 walk-marks-requires : tie.Need-walk-marks-requires
 walk-marks-requires c κs = simp length-take (omega arith)
 
-returns-2 : tie.Need-returns-2
-returns-2 c =
-    let a = (c .before .before .before .before .before .before .before .before .args) in
-    c .walk-marks .ensures
-    ∙ sym (back-left (now (a .text)) (now (a .codes)) (now (a .path)) (c .before .before .before .before .shared-back .result) (c .before .before .before .before .shared-back .ensures) (λ k. omega (arith, c .before .before .before .before .before .shared-slice-known3 .given k)))
+returns-3 : tie.Need-returns-3
+returns-3 c =
+    let a = c .before .before .before .before .before .before .before .before .args in
+    let n = c .before .before .before .before .taken-back in
+    c .walk-marks .ensures ∙ sym (back-left (now (a .text)) (now (a .codes)) (now (a .path)) (n .result) (n .ensures))
 
 pub walk-back-spec : {M : Type 1} → statement M
 walk-back-spec =
     tie.close
     (tie.spec
-    shared-back-requires
+    taken-back-requires
     sub-k
     sub-m
-    sub-if2
-    mul-if2
-    shared-slice-read-if2
+    sub-last
+    mul-last
+    shared-slice-read-last
+    repeats-requires
     returns
+    slice-aggregate-takes-all
+    takes-all-requires
+    returns-2
     slice-aggregate-walk-marks
     slice-aggregate-walk-marks-2
     walk-marks-requires
-    returns-2)
+    returns-3)
