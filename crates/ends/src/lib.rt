@@ -9,10 +9,13 @@ ghost use Rattle.pattern.specs.Literals.{ordinary};
 ghost use Rattle.pattern.specs.Items.{before};
 ghost use Rattle.pattern.specs.Places.{partEnd, itemEnd};
 
-// Whether b is a literal whatever stands behind it.
+// Whether b is a literal whatever stands behind it. Most bytes are small letters, which are told by one comparison.
 pub fn is_ordinary(b: u8) -> bool
     ensures { λ r. ⌜ r ≡ ordinary b ⌝ }
 {
+    if (b'a' <= b) & (b <= b'z') {
+        return true;
+    }
     !((b == b'\\')
         | (b == b'?')
         | (b == b'*')
