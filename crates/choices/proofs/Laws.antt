@@ -1,12 +1,10 @@
--- Where no choice of a pattern's first item may begin the path, no expansion matches it.
+-- Where the first choices of a pattern may not begin the path, no expansion matches it.
 use mathlib.Core.Path.{_≡_, refl, sym, ap, ap₂, _∙_}
 use mathlib.Core.List.{List, [], _∷_, _++_, map, map-append, map-map}
 use mathlib.Core.Bool.{Bool, true, false, _&&_, _||_, false≢true}
-use Prim.Native.Nat.{ℕ, _≤_}
+use Prim.Native.Nat.{ℕ, zero, suc}
 use native.Mathlib.Omega.{arith}
-use lib.ListN.{length, drop, drop-of-length-le}
-use lib.Dec.{ltb}
-use borrow.Author.Tests.{ltb-false}
+use lib.ListN.{length, drop}
 use Rattle.scan.specs.Bytes.{every, some, same}
 use Rattle.scan.proofs.Laws.{some-append}
 use Rattle.scan.proofs.Bools.{neither-left, neither-right}
@@ -19,7 +17,7 @@ use Rattle.pattern.proofs.Literals.{parts-ordinary}
 use Rattle.pattern.proofs.Laws.{items-at}
 use Rattle.front.specs.Front.{beginning, frontAfter, slashAfter, someAfter, exactAfter}
 use Rattle.front.proofs.Laws.{across-one, keptAfter, kept-front, plain-expansions, each, each-literal, every-literal}
-use Rattle.choices.specs.Choices.{valuesIn, leadsOn, someLeads, opensItem, opens}
+use Rattle.choices.specs.Choices.{valuesIn, leads, orFollows, leadsOn, someLeads, opensItem, opens}
 
 -- ---- each of some expansions before each of others
 
@@ -79,74 +77,78 @@ module _ (g : List ℕ → List (List Piece)) (ts : List (List Piece)) where
 
 -- ---- where none leads on, none matches
 
-module _ (keep : List Piece → Bool) (literal : (b : ℕ) (x : List Piece) → keep (Byte b ∷ x) ≡ keep x)
-    (vs : List Variable) (slash : Bool) (rest path : List ℕ) where
-  abbrev None : List (List Piece) → Type 0
-  None xs = keptAfter keep slash (across xs (expansions vs rest)) path ≡ false
-
-  value-none : (g : List ℕ → List (List Piece)) (v : List ℕ) → leadsOn slash v rest path ≡ false → None (ofParts listing g (parts 0 v))
-  unfolding leadsOn
-  value-none g v h = kept-front keep literal F (plain-value g ts) v path slash ∙ go (beginning f path) h
+module _ (keep : List Piece → Bool) (literal : (b : ℕ) (x : List Piece) → keep (Byte b ∷ x) ≡ keep x) where
+  -- what is left behind a front does not go on
+  leads-none : (F : List ℕ → List (List Piece)) → ((b : ℕ) (s : List ℕ) → special b ≡ false → F (b ∷ s) ≡ map (λ x. Byte b ∷ x) (F s)) →
+      (goes : Bool → List ℕ → List ℕ → Bool) → ((slash : Bool) (s path : List ℕ) → goes slash s path ≡ false → keptAfter keep slash (F s) path ≡ false) →
+      (s : List ℕ) (slash : Bool) (path : List ℕ) → leads goes s slash path ≡ false → keptAfter keep slash (F s) path ≡ false
+  unfolding leads
+  leads-none F plain goes none s slash path h = kept-front keep literal F plain s path slash ∙ go (beginning f path) h
     where
-      ts : List (List Piece)
-      ts = expansions vs rest
-
-      F : List ℕ → List (List Piece)
-      F = valueThen g ts
-
       f : List ℕ
-      f = frontAfter slash v
+      f = frontAfter slash s
 
-      after : Bool
-      after = slashAfter slash f
-
-      go : (x : Bool) → (x && (ltb (length f) (length v) || beginning (frontAfter after rest) (drop (length f) path))) ≡ false →
-          (x && keptAfter keep after (F (drop (length f) v)) (drop (length f) path)) ≡ false
+      go : (x : Bool) → (x && goes (slashAfter slash f) (drop (length f) s) (drop (length f) path)) ≡ false →
+          (x && keptAfter keep (slashAfter slash f) (F (drop (length f) s)) (drop (length f) path)) ≡ false
       go false k = refl
-      go true k =
-          let whole : length v ≤ length f = ltb-false (length f) (length v) (neither-left _ _ k) in
-          rw (drop-of-length-le v whole, value-end g ts)
-          (kept-front keep literal (expansions vs) (plain-expansions vs) rest (drop (length f) path) after ∙ rw (neither-right (ltb (length f) (length v)) _ k))
+      go true k = none (slashAfter slash f) (drop (length f) s) (drop (length f) path) k
 
-  values-none : (g : List ℕ → List (List Piece)) (ss : List (List ℕ)) → someLeads slash ss rest path ≡ false → None (oneOf listing g ss)
-  unfolding some oneOf
-  values-none g [] h = none-across _ (expansions vs rest)
-  values-none g (s ∷ ss) h =
-      none-either _ (ofParts listing g (parts 0 s)) (oneOf listing g ss) (expansions vs rest)
-      (value-none g s (neither-left (leadsOn slash s rest path) (someLeads slash ss rest path) h))
-      (values-none g ss (neither-right (leadsOn slash s rest path) (someLeads slash ss rest path) h))
+  -- a choice before what matches nothing where it does not go on
+  module _ (vs : List Variable) (rest : List ℕ) (goes : Bool → List ℕ → Bool)
+      (none : (slash : Bool) (path : List ℕ) → goes slash path ≡ false → keptAfter keep slash (expansions vs rest) path ≡ false) (slash : Bool) (path : List ℕ) where
+    abbrev None : List (List Piece) → Type 0
+    None xs = keptAfter keep slash (across xs (expansions vs rest)) path ≡ false
 
-  name-none : (ws : List Variable) (n : List ℕ) → someLeads slash (valuesIn ws n) rest path ≡ false → None (ofName listing ws n)
-  unfolding valuesIn ofName
-  name-none [] n h = none-across _ (expansions vs rest)
-  name-none (w ∷ ws) n h = go (same (w .name) n) (name-none ws n) h
-    where
-      go : (x : Bool) → (someLeads slash (valuesIn ws n) rest path ≡ false → None (ofName listing ws n)) →
-          someLeads slash (elim x as (λ _. List (List ℕ)) [ true ↦ w .values | false ↦ valuesIn ws n ]) rest path ≡ false →
-          None (elim x as (λ _. List (List Piece)) [ true ↦ oneOf listing (ofName listing ws) (w .values) | false ↦ ofName listing ws n ])
-      go true later k = values-none (ofName listing ws) (w .values) k
-      go false later k = later k
+    value-none : (g : List ℕ → List (List Piece)) (v : List ℕ) → leadsOn goes slash path v ≡ false → None (ofParts listing g (parts 0 v))
+    value-none g v h = leads-none (valueThen g ts) (plain-value g ts) (orFollows goes) after v slash path h
+      where
+        ts : List (List Piece)
+        ts = expansions vs rest
 
-  item-none : (i : Item) → opensItem vs slash i rest path ≡ false → None (ofItem listing (ofName listing vs) i)
-  item-none (Single (Is p)) h = absurd (false≢true (sym h))
-  item-none (Single (Use n)) h = name-none vs n h
-  item-none (Single Bad) h = absurd (false≢true (sym h))
-  item-none (Among ss) h = values-none (ofName listing vs) ss h
+        after : (slash : Bool) (s path : List ℕ) → orFollows goes slash s path ≡ false → keptAfter keep slash (valueThen g ts s) path ≡ false
+        after slash [] path k = rw (value-end g ts) (none slash path k)
+        after slash (b ∷ s) path k = absurd (false≢true (sym k))
 
--- the first item of a pattern
-module _ (keep : List Piece → Bool) (literal : (b : ℕ) (x : List Piece) → keep (Byte b ∷ x) ≡ keep x) (vs : List Variable) (slash : Bool) where
-  kept-none : (s path : List ℕ) → opens vs slash s path ≡ false → keptAfter keep slash (expansions vs s) path ≡ false
+    values-none : (g : List ℕ → List (List Piece)) (ss : List (List ℕ)) → someLeads goes slash path ss ≡ false → None (oneOf listing g ss)
+    unfolding some oneOf
+    values-none g [] h = none-across _ (expansions vs rest)
+    values-none g (s ∷ ss) h =
+        none-either _ (ofParts listing g (parts 0 s)) (oneOf listing g ss) (expansions vs rest)
+        (value-none g s (neither-left (leadsOn goes slash path s) (someLeads goes slash path ss) h))
+        (values-none g ss (neither-right (leadsOn goes slash path s) (someLeads goes slash path ss) h))
+
+    name-none : (ws : List Variable) (n : List ℕ) → someLeads goes slash path (valuesIn ws n) ≡ false → None (ofName listing ws n)
+    unfolding valuesIn ofName
+    name-none [] n h = none-across _ (expansions vs rest)
+    name-none (w ∷ ws) n h = go (same (w .name) n) (name-none ws n) h
+      where
+        go : (x : Bool) → (someLeads goes slash path (valuesIn ws n) ≡ false → None (ofName listing ws n)) →
+            someLeads goes slash path (elim x as (λ _. List (List ℕ)) [ true ↦ w .values | false ↦ valuesIn ws n ]) ≡ false →
+            None (elim x as (λ _. List (List Piece)) [ true ↦ oneOf listing (ofName listing ws) (w .values) | false ↦ ofName listing ws n ])
+        go true later k = values-none (ofName listing ws) (w .values) k
+        go false later k = later k
+
+    item-none : (i : Item) → opensItem goes vs slash path i ≡ false → None (ofItem listing (ofName listing vs) i)
+    item-none (Single (Is p)) h = absurd (false≢true (sym h))
+    item-none (Single (Use n)) h = name-none vs n h
+    item-none (Single Bad) h = absurd (false≢true (sym h))
+    item-none (Among ss) h = values-none (ofName listing vs) ss h
+
+  -- the first choices of a pattern
+  kept-none : (depth : ℕ) (vs : List Variable) (slash : Bool) (s path : List ℕ) → opens depth vs slash s path ≡ false → keptAfter keep slash (expansions vs s) path ≡ false
   unfolding opens expansions ofItems
-  kept-none [] path h = absurd (false≢true (sym h))
-  kept-none (b ∷ s) path h =
+  kept-none zero vs slash s path h = absurd (false≢true (sym h))
+  kept-none (suc k) vs slash [] path h = absurd (false≢true (sym h))
+  kept-none (suc k) vs slash (b ∷ s) path h =
+      let rest = drop (itemEnd (b ∷ s) 0) (b ∷ s) in
       ap (λ (is : List Item). keptAfter keep slash (ofItems listing (ofName listing vs) is) path) (items-at (b ∷ s) 0 (itemEnd (b ∷ s) 0) (omega arith) refl)
-      ∙ item-none keep literal vs slash (drop (itemEnd (b ∷ s) 0) (b ∷ s)) path (itemAt (b ∷ s) 0) h
+      ∙ item-none vs rest (leads (opens k vs) rest) (leads-none (expansions vs) (plain-expansions vs) (opens k vs) (kept-none k vs) rest) slash path (itemAt (b ∷ s) 0) h
 
-module _ (vs : List Variable) (slash : Bool) (s path : List ℕ) (h : opens vs slash s path ≡ false) where
+module _ (depth : ℕ) (vs : List Variable) (slash : Bool) (s path : List ℕ) (h : opens depth vs slash s path ≡ false) where
   pub opens-none : someAfter slash vs s path ≡ false
   unfolding someAfter
-  opens-none = kept-none each each-literal vs slash s path h
+  opens-none = kept-none each each-literal depth vs slash s path h
 
   pub opens-none-exactly : exactAfter slash vs s path ≡ false
   unfolding exactAfter
-  opens-none-exactly = kept-none (every isLiteral) every-literal vs slash s path h
+  opens-none-exactly = kept-none (every isLiteral) every-literal depth vs slash s path h

@@ -1,15 +1,15 @@
--- A value held to a path, and the turns of the loops over values and alternatives.
+-- A front held to a path, and the turns of the loops over values and alternatives.
 use mathlib.Core.Path.{_≡_, refl, sym, ap, _∙_}
 use mathlib.Core.List.{List, [], _∷_}
 use mathlib.Core.Bool.{Bool, true, false}
 use Prim.Native.Nat.{ℕ, zero, suc, _+_, _*_, _-_, _≤_, _<_, min}
 use Prim.Native.Char.{code}
 use native.Mathlib.Omega.{arith}
-use lib.ListN.{length, drop, getD}
-use lib.Dec.{ltb}
-use borrow.Author.Tests.{lt-ltb, le-ltb, ltb-true, ltb-false}
-use Rattle.scan.specs.Bytes.{some, same, span}
-use Rattle.scan.proofs.Laws.{span-rest}
+use lib.ListN.{length, drop, getD, length-drop, drop-of-length-le}
+use lib.Dec.{ltb, eqb}
+use borrow.Author.Tests.{ltb-true, ltb-false}
+use Rattle.scan.specs.Bytes.{some, same, span, if_then_else_}
+use Rattle.scan.proofs.Laws.{span-rest, drop-span}
 use Rattle.pattern.specs.Items.{before, alternatives}
 use Rattle.pattern.specs.Places.{itemAt, itemEnd}
 use Rattle.pattern.specs.Expansions.{Variable}
@@ -21,40 +21,58 @@ use Rattle.pattern.specs.declared.ItemRead.{ItemRead}
 use Rattle.pattern.specs.declared.ItemRead.the-variants as item
 use Rattle.pattern.specs.Table.{bytesAt, valuesFrom, valuesOf, variables, numberOf}
 use Rattle.pattern.proofs.Laws.{alternatives-more, alternatives-last}
-use Rattle.front.specs.Front.{leadOf}
+use Rattle.front.specs.Front.{plainAfter, frontAfter, leadOf}
 use Rattle.front.specs.declared.Led.{Led}
-use Rattle.front.proofs.Laws.{lead-fits, lead-none, lead-some, lead-len, lead-slash}
-use Rattle.choices.specs.Choices.{valuesIn, leadsOn, someLeads, opensItem, opens}
+use Rattle.front.proofs.Laws.{lead-none, lead-some, lead-len, lead-slash}
+use Rattle.choices.specs.Choices.{valuesIn, leads, orFollows, leadsOn, someLeads, opensItem, opens}
 
--- ---- a value
+-- ---- a front
 
--- what was told of the front of a value
-module _ (value rest path : List ℕ) (slash : Bool) (first : Led) (told : first ≡ leadOf slash (span value 0 (length value)) path) where
-  of-value : first ≡ leadOf slash value path
-  of-value = told ∙ ap (λ (s : List ℕ). leadOf slash s path) (span-rest value 0)
+pub front-le : (slash : Bool) (s : List ℕ) → length (frontAfter slash s) ≤ length s
+unfolding frontAfter
+front-le slash [] = omega arith
+front-le slash (b ∷ s) = go (plainAfter slash b) (front-le (eqb b (code "/")) s)
+  where
+    go : (t : Bool) → length (frontAfter (eqb b (code "/")) s) ≤ length s → length (if t then b ∷ frontAfter (eqb b (code "/")) s else []) ≤ suc (length s)
+    go true h = omega arith
+    go false h = omega arith
 
-  pub leads-unfit : first .fits ≡ false → false ≡ leadsOn slash value rest path
-  unfolding leadsOn
-  leads-unfit e = rw (lead-none slash value path first of-value e)
+-- what was told of a front
+module _ (goes : Bool → List ℕ → List ℕ → Bool) (slash : Bool) (s path : List ℕ) {r : Led} (told : r ≡ leadOf slash s path) where
+  pub led-none : r .fits ≡ false → false ≡ leads goes s slash path
+  unfolding leads
+  led-none e = rw (lead-none slash s path r told e)
 
-  pub leads-short : first .fits ≡ true → first .len < length value → true ≡ leadsOn slash value rest path
-  unfolding leadsOn
-  leads-short e h = rw (lead-some slash value path first of-value e, ← lead-len slash value path first of-value e, lt-ltb (first .len) (length value) h)
+  pub led-some : r .fits ≡ true → goes (r .slash) (drop (r .len) s) (drop (r .len) path) ≡ leads goes s slash path
+  unfolding leads
+  led-some e = rw (lead-some slash s path r told e, lead-len slash s path r told e, lead-slash slash s path r told e)
 
-  -- and of the front of what follows it
-  pub leads-whole : first .fits ≡ true → length value ≤ first .len → (next : Led) (p : List ℕ) → p ≡ span path (first .len) (length path) →
-      next ≡ leadOf (first .slash) (span rest 0 (length rest)) p → next .fits ≡ leadsOn slash value rest path
-  unfolding leadsOn
-  leads-whole e h next p q t =
-      let u : next ≡ leadOf (first .slash) rest (drop (first .len) path) = t ∙ rw (span-rest rest 0, q, span-rest path (first .len)) in
-      ap (λ (l : Led). l .fits) u
-      ∙ lead-fits (first .slash) rest (drop (first .len) path)
-      ∙ rw (
-        lead-some slash value path first of-value e,
-        ← lead-len slash value path first of-value e,
-        ← lead-slash slash value path first of-value e,
-        le-ltb (first .len) (length value) h,
-      )
+-- of the front of a value
+module _ (goes : Bool → List ℕ → Bool) (slash : Bool) (path value : List ℕ) {r : Led} (told : r ≡ leadOf slash (span value 0 (length value)) path) where
+  of-value : r ≡ leadOf slash value path
+  of-value = told ∙ rw (span-rest value 0)
+
+  pub leads-unfit : r .fits ≡ false → false ≡ leadsOn goes slash path value
+  leads-unfit e = led-none (orFollows goes) slash value path of-value e
+
+  pub leads-short : r .fits ≡ true → r .len < length value → true ≡ leadsOn goes slash path value
+  leads-short e h = go (drop (r .len) value) (omega (arith, length-drop (r .len) value)) ∙ led-some (orFollows goes) slash value path of-value e
+    where
+      go : (l : List ℕ) → 0 < length l → true ≡ orFollows goes (r .slash) l (drop (r .len) path)
+      go [] k = absurd (omega arith)
+      go (b ∷ l) k = refl
+
+  pub leads-whole : r .fits ≡ true → length value ≤ r .len → {left : List ℕ} → left ≡ span path (r .len) (length path) → goes (r .slash) left ≡ leadsOn goes slash path value
+  leads-whole e h q = rw (q, span-rest path (r .len), ← led-some (orFollows goes) slash value path of-value e, drop-of-length-le value h)
+
+-- of the front of a part of the text
+module _ (slash : Bool) (text : List ℕ) (a e : ℕ) (path : List ℕ) {r : Led} (told : r ≡ leadOf slash (span text a e) path) (fits : r .fits ≡ true) where
+  pub led-within : r .len ≤ length (span text a e)
+  led-within = omega (arith, lead-len slash (span text a e) path r told fits, front-le slash (span text a e))
+
+  pub leads-next : (goes : Bool → List ℕ → List ℕ → Bool) {left : List ℕ} → left ≡ span path (r .len) (length path) →
+      goes (r .slash) (span text (a + r .len) e) left ≡ leads goes (span text a e) slash path
+  leads-next goes q = rw (q, span-rest path (r .len), ← drop-span text a e (r .len)) (led-some goes slash (span text a e) path told fits)
 
 -- ---- one of several
 
@@ -87,12 +105,12 @@ module _ (p : List ℕ → Bool) (text vars : List ℕ) where
         let d : i + k + 1 ≡ i + (k + 1) = omega arith in
         rw (e, valuesFrom, d)
 
-    module _ (h : k < m) (v : List ℕ) (e : v ≡ bytesAt text vars (96 + 2 * (i + k))) where
-      pub value-here : p v ≡ true → true ≡ whole
-      value-here y = sym (ap (some p) (values-next h) ∙ some-here p (bytesAt text vars (96 + 2 * (i + k))) _ (rw (← e) y)) ∙ all
+    module _ (h : k < m) {v : List ℕ} (e : v ≡ bytesAt text vars (96 + 2 * (i + k))) {y : Bool} (said : y ≡ p v) where
+      pub value-here : y ≡ true → true ≡ whole
+      value-here f = sym (ap (some p) (values-next h) ∙ some-here p (bytesAt text vars (96 + 2 * (i + k))) _ (rw (← e) (sym said ∙ f))) ∙ all
 
-      pub value-there : p v ≡ false → some p (valuesFrom text vars (m - (k + 1)) (i + (k + 1))) ≡ whole
-      value-there y = sym (ap (some p) (values-next h) ∙ some-there p (bytesAt text vars (96 + 2 * (i + k))) _ (rw (← e) y)) ∙ all
+      pub value-there : y ≡ false → some p (valuesFrom text vars (m - (k + 1)) (i + (k + 1))) ≡ whole
+      value-there f = sym (ap (some p) (values-next h) ∙ some-there p (bytesAt text vars (96 + 2 * (i + k))) _ (rw (← e) (sym said ∙ f))) ∙ all
 
     pub value-nowhere : m ≤ k → false ≡ whole
     unfolding valuesFrom
@@ -100,19 +118,19 @@ module _ (p : List ℕ → Bool) (text vars : List ℕ) where
 
 -- the alternatives from place i on, where j is the next comma or the end
 module _ (p : List ℕ → Bool) {whole : Bool} (s : List ℕ) (i j : ℕ) (at : j ≡ i + before (code ",") 0 (drop i s))
-    (all : some p (alternatives (drop i s)) ≡ whole) (v : List ℕ) (e : v ≡ span s i j) where
-  pub alternative-here : p v ≡ true → true ≡ whole
-  alternative-here y = go (ltb j (length s)) refl
+    (all : some p (alternatives (drop i s)) ≡ whole) {v : List ℕ} (e : v ≡ span s i j) {y : Bool} (said : y ≡ p v) where
+  pub alternative-here : y ≡ true → true ≡ whole
+  alternative-here f = go (ltb j (length s)) refl
     where
       go : (x : Bool) → ltb j (length s) ≡ x → true ≡ whole
-      go true k = sym (ap (some p) (alternatives-more s i j at (ltb-true j (length s) k)) ∙ some-here p (span s i j) _ (rw (← e) y)) ∙ all
-      go false k = sym (ap (some p) (alternatives-last s i j at (ltb-false j (length s) k)) ∙ some-here p (span s i j) _ (rw (← e) y)) ∙ all
+      go true k = sym (ap (some p) (alternatives-more s i j at (ltb-true j (length s) k)) ∙ some-here p (span s i j) _ (rw (← e) (sym said ∙ f))) ∙ all
+      go false k = sym (ap (some p) (alternatives-last s i j at (ltb-false j (length s) k)) ∙ some-here p (span s i j) _ (rw (← e) (sym said ∙ f))) ∙ all
 
-  pub alternative-there : p v ≡ false → j < length s → some p (alternatives (drop (j + 1) s)) ≡ whole
-  alternative-there y h = sym (ap (some p) (alternatives-more s i j at h) ∙ some-there p (span s i j) _ (rw (← e) y)) ∙ all
+  pub alternative-there : y ≡ false → j < length s → some p (alternatives (drop (j + 1) s)) ≡ whole
+  alternative-there f h = sym (ap (some p) (alternatives-more s i j at h) ∙ some-there p (span s i j) _ (rw (← e) (sym said ∙ f))) ∙ all
 
-  pub alternative-nowhere : p v ≡ false → length s ≤ j → false ≡ whole
-  alternative-nowhere y h = sym (some-none p) ∙ sym (ap (some p) (alternatives-last s i j at h) ∙ some-there p (span s i j) [] (rw (← e) y)) ∙ all
+  pub alternative-nowhere : y ≡ false → length s ≤ j → false ≡ whole
+  alternative-nowhere f h = sym (some-none p) ∙ sym (ap (some p) (alternatives-last s i j at h) ∙ some-there p (span s i j) [] (rw (← e) (sym said ∙ f))) ∙ all
 
 -- ---- the values of a name go by its number
 
@@ -136,38 +154,41 @@ module _ (text vars : List ℕ) where
   values-some zero e = absurd (e refl)
   values-some (suc w) e = let k : suc w - 1 ≡ w = omega arith in rw k
 
-  module _ (slash : Bool) (n : ℕ) (name : List ℕ) (rest path : List ℕ) (r : ℕ) (told : r ≡ numberOf text vars n name) where
-    pub name-unset : r ≡ 0 → false ≡ someLeads slash (valuesIn (variables text vars n) name) rest path
+  module _ (goes : Bool → List ℕ → Bool) (slash : Bool) (path : List ℕ) (n : ℕ) (name : List ℕ) {r : ℕ} (told : r ≡ numberOf text vars n name) where
+    pub name-unset : r ≡ 0 → false ≡ someLeads goes slash path (valuesIn (variables text vars n) name)
     unfolding some
     name-unset e = rw (name-values n name, ← told, e)
 
-    pub name-set : (r ≡ 0 → ⊥) → someLeads slash (valuesOf text vars (r - 1)) rest path ≡ someLeads slash (valuesIn (variables text vars n) name) rest path
+    pub name-set : (r ≡ 0 → ⊥) → someLeads goes slash path (valuesOf text vars (r - 1)) ≡ someLeads goes slash path (valuesIn (variables text vars n) name)
     name-set e = rw (name-values n name, ← told, values-some r e)
 
 -- ---- the first item, as it was read
 
-pub rest-read : {s w rest : List ℕ} {k : ℕ} → s ≡ w → k ≡ itemEnd s 0 → rest ≡ span s k (length s) → rest ≡ drop (itemEnd w 0) w
-rest-read {s = s} {k = k} e f g = g ∙ span-rest s k ∙ rw (f, e)
+pub opens-zero : {depth : ℕ} → depth ≡ 0 → (vs : List Variable) (slash : Bool) (s path : List ℕ) → true ≡ opens depth vs slash s path
+unfolding opens
+opens-zero e vs slash s path = rw e
 
-module _ (vs : List Variable) (slash : Bool) (text w path : List ℕ) (i : ItemRead) (read : seenItem text i ≡ itemAt w 0) where
-  opened : opensItem vs slash (seenItem text i) (drop (itemEnd w 0) w) path ≡ opens vs slash w path
-  unfolding opens
-  opened = rw read
+opens-more : (depth : ℕ) → (depth ≡ 0 → ⊥) → (vs : List Variable) (slash : Bool) (s path : List ℕ) →
+    opensItem (leads (opens (depth - 1) vs) (drop (itemEnd s 0) s)) vs slash path (itemAt s 0) ≡ opens depth vs slash s path
+unfolding opens
+opens-more zero more vs slash s path = absurd (more refl)
+opens-more (suc k) more vs slash s path = let e : suc k - 1 ≡ k = omega arith in rw e
 
-  opened-by : {j : ItemRead} → i ≡ j → opensItem vs slash (seenItem text j) (drop (itemEnd w 0) w) path ≡ opens vs slash w path
-  opened-by e = rw (← e) opened
+module _ (depth : ℕ) (more : depth ≡ 0 → ⊥) (vs : List Variable) (slash : Bool) (text w path : List ℕ) (i : ItemRead) (read : seenItem text i ≡ itemAt w 0) where
+  opened-by : {j : ItemRead} → i ≡ j → opensItem (leads (opens (depth - 1) vs) (drop (itemEnd w 0) w)) vs slash path (seenItem text j) ≡ opens depth vs slash w path
+  opened-by e = rw (← e, read) (opens-more depth more vs slash w path)
 
   module _ {p : PartRead} (e : i ≡ item.Single p) where
-    pub opens-piece : {q : PieceRead} → p ≡ part.Is q → true ≡ opens vs slash w path
+    pub opens-piece : {q : PieceRead} → p ≡ part.Is q → true ≡ opens depth vs slash w path
     opens-piece f = opened-by (e ∙ ap item.Single f)
 
-    pub opens-bad : p ≡ part.Bad → true ≡ opens vs slash w path
+    pub opens-bad : p ≡ part.Bad → true ≡ opens depth vs slash w path
     opens-bad f = opened-by (e ∙ ap item.Single f)
 
     pub opens-use : {a b : ℕ} {rest : List ℕ} → p ≡ part.Use a b → rest ≡ drop (itemEnd w 0) w →
-        someLeads slash (valuesIn vs (span text a b)) rest path ≡ opens vs slash w path
+        someLeads (leads (opens (depth - 1) vs) rest) slash path (valuesIn vs (span text a b)) ≡ opens depth vs slash w path
     opens-use f g = rw g (opened-by (e ∙ ap item.Single f))
 
   pub opens-among : {a b : ℕ} {s rest : List ℕ} → i ≡ item.Among a b → s ≡ span text a b → rest ≡ drop (itemEnd w 0) w →
-      someLeads slash (alternatives s) rest path ≡ opens vs slash w path
+      someLeads (leads (opens (depth - 1) vs) rest) slash path (alternatives s) ≡ opens depth vs slash w path
   opens-among e f g = rw (f, g) (opened-by e)

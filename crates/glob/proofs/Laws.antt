@@ -43,6 +43,7 @@ use Rattle.front.specs.Front.{beginning, plainAfter, frontAfter, front, slashAf
 use Rattle.front.proofs.Laws.{plain-expansions, some-after, exact-after, behind, behind-exactly, front-none, front-none-exactly, lead-some, lead-len, lead-slash, rest-after}
 use Rattle.choices.specs.Choices.{opens}
 use Rattle.choices.proofs.Laws.{opens-none}
+use Rattle.choices.proofs.Turns.{front-le}
 use Rattle.glob.specs.declared.Matched.{Matched}
 use Rattle.glob.specs.Glob.{noMatch, matchedOf, matchedBy, someBelow, matchedAt, matchedBelow, matchedAll, matchedBehind, matchedIn}
 
@@ -267,15 +268,6 @@ beginning-le [] path e = omega arith
 beginning-le (a ∷ f) [] e = absurd (false≢true e)
 beginning-le (a ∷ f) (b ∷ path) e = omega (arith, beginning-le f path (and-right (eqb a b) (beginning f path) e))
 
-front-le : (slash : Bool) (s : List ℕ) → length (frontAfter slash s) ≤ length s
-unfolding frontAfter
-front-le slash [] = omega arith
-front-le slash (b ∷ s) = go (plainAfter slash b) (front-le (eqb b (code "/")) s)
-  where
-    go : (t : Bool) → length (frontAfter (eqb b (code "/")) s) ≤ length s → length (if t then b ∷ frontAfter (eqb b (code "/")) s else []) ≤ suc (length s)
-    go true h = omega arith
-    go false h = omega arith
-
 -- the path begins with the front: the places behind it
 module _ (s path : List ℕ) {l : Led} (told : l ≡ leadOf false s path) (fits : l .fits ≡ true) where
   pub len-path : l .len ≤ length path
@@ -363,16 +355,16 @@ faulty text vs pattern path e = rw (ne-eqb (patternFault vs pattern) 0 e) (go (t
     go true false = refl
     go false p = refl
 
--- one whose first choice does not begin the path behind the front
-pub unopened : (text vars : List ℕ) (n a e : ℕ) (path : List ℕ) {l : Led} → l ≡ leadOf false (span text a e) path → l .fits ≡ true → {o : Bool} →
-    o ≡ opens (env text vars n) (l .slash) (span text (a + l .len) e) (take (length path - l .len) (drop (l .len) path)) → o ≡ false →
+-- one whose first choices do not begin the path behind the front
+pub unopened : (depth : ℕ) (text vars : List ℕ) (n a e : ℕ) (path : List ℕ) {l : Led} → l ≡ leadOf false (span text a e) path → l .fits ≡ true → {o : Bool} →
+    o ≡ opens depth (env text vars n) (l .slash) (span text (a + l .len) e) (take (length path - l .len) (drop (l .len) path)) → o ≡ false →
     noMatch ≡ matchedOf text (env text vars n) (span text a e) path
-unopened text vars n a e path {l} told fits q o =
+unopened depth text vars n a e path {l} told fits q o =
     let vs = env text vars n in
     let s = span text a e in
-    let h : opens vs (l .slash) (drop (l .len) s) (drop (l .len) path) ≡ false = rw (drop-span text a e, ← rest path (l .len)) (sym q ∙ o) in
+    let h : opens depth vs (l .slash) (drop (l .len) s) (drop (l .len) path) ≡ false = rw (drop-span text a e, ← rest path (l .len)) (sym q ∙ o) in
     unmatched text vs s path
-    (some-after vs s path ∙ rest-after false s path l told vs fits ∙ opens-none vs (l .slash) (drop (l .len) s) (drop (l .len) path) h)
+    (some-after vs s path ∙ rest-after false s path l told vs fits ∙ opens-none depth vs (l .slash) (drop (l .len) s) (drop (l .len) path) h)
 
 -- text or path too long
 pub unfit : (text : List ℕ) (vs : List Variable) (pattern path : List ℕ) → (textFits text && pathFits path) ≡ false → noMatch ≡ matchedOf text vs pattern path

@@ -26,6 +26,9 @@ ghost use Rattle.glob.specs.Glob.{matchedOf, matchedBy, matchedAt, match
 // How many codes the buffer has that expansions are written to; it is cleared once for all of them. Few are longer behind their front.
 const SHORT: usize = 128;
 
+// How many choices of a pattern are held to a path before anything is expanded.
+const CHOICES: usize = 2;
+
 // Whether some expansion matches, and whether one of literals only does.
 pub struct Matched {
     pub some: bool,
@@ -226,7 +229,7 @@ fn used(text: &[u8], n: usize, a: usize, e: usize) -> usize
 }
 
 // The pattern from a to before e against a path that begins with its front; nothing is expanded where what follows
-// cannot begin with the pattern's first choice.
+// cannot begin with the pattern's first choices.
 fn match_led(
     text: &[u8],
     vars: &[usize],
@@ -240,7 +243,7 @@ fn match_led(
     ensures { λ r. ⌜ r ≡ matchedOf (now (text .entry)) (env (now (text .entry)) (now (vars .entry)) n) (span (now (text .entry)) a e) (now (path .entry)) ⌝ }
 {
     let len = l.len;
-    if may_open(text, vars, n, a + len, e, l.slash, &path[len..]) {
+    if may_open(text, vars, n, CHOICES, a + len, e, l.slash, &path[len..]) {
         return match_judged(text, vars, used(text, n, a, e), a, e, l, path);
     }
     Matched {

@@ -48,7 +48,7 @@ returns-2 : tie.Need-returns-2
 returns-2 c =
     let p = c .before .before .before .before .before .before .pre in
     let r = c .before .before .before .before .before .before .args in
-    unopened (now (r .text)) (now (r .vars)) (r .n) (r .a) (r .e) (now (r .path)) (p .1) (p .2) (c .before .may-open .ensures) (c .if1 .left)
+    unopened _ (now (r .text)) (now (r .vars)) (r .n) (r .a) (r .e) (now (r .path)) (p .1) (p .2) (c .before .may-open .ensures) (c .if1 .left)
 
 pub match-led-spec : {M : Type 1} → statement M
 match-led-spec =
