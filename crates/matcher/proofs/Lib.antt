@@ -1,4 +1,5 @@
 pub mod Laws
+pub mod Steps
 pub mod Alive
 pub mod Codes
 pub mod Front

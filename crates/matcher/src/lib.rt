@@ -2,7 +2,7 @@
 ghost use mathlib.Core.Path.{_≡_};
 ghost use mathlib.Core.Bool.{true, false, _&&_};
 ghost use mathlib.Core.List.{List, map, reverse};
-ghost use Prim.Native.Nat.{ℕ, _+_, _-_, _≤_};
+ghost use Prim.Native.Nat.{ℕ, _+_, _-_, _≤_, _<_};
 ghost use lib.ListN.{length, getD, take, drop};
 ghost use Rattle.scan.specs.Bytes.{run};
 ghost use Rattle.pattern.specs.Codes.{bracketed, decode, notClose};
@@ -21,6 +21,12 @@ const CLASS: u32 = 65536;
 // Which places of the path are alive, and whether any is.
 struct Marks {
     places: [bool; 4096],
+    alive: bool,
+}
+
+// The same of a path of at most 255 bytes: sixteen times fewer are copied for each piece.
+struct ShortMarks {
+    places: [bool; 256],
     alive: bool,
 }
 
@@ -94,31 +100,39 @@ fn mark(many: bool, before: bool, here: bool, carried: bool, ok: bool) -> bool
     }
 }
 
-// The places alive after a piece. The new marks begin as a copy: a place that is not reached yet has its mark from before.
+// The marks after a piece in the place of those before it, and whether any place is alive: one that is not reached yet has its mark
+// from before.
+fn advance(marks: &mut [bool], text: &[u8], code: u32, path: &[u8]) -> bool
+    requires { ⌜ length (now path) < length (now marks) ⌝ }
+    ensures { λ r. ⌜ ((i : ℕ) → i ≤ length (now (path .entry)) → getD (now (marks .exit)) i false ≡ after (decode (now (text .entry)) code) (now (path .entry)) (now (marks .entry)) i) ⌝ }
+    ensures { λ r. ⌜ r ≡ someUpTo (after (decode (now (text .entry)) code) (now (path .entry)) (now (marks .entry))) (length (now (path .entry))) ⌝ }
+{
+    let many = repeats(code);
+    let mut before = marks[0];
+    let mut alive = mark(many, false, before, false, false);
+    marks[0] = alive;
+    let mut i = 0;
+    while i < path.len() {
+        let ok = takes(text, code, path[i]);
+        let here = marks[i + 1];
+        let m = mark(many, before, here, marks[i], ok);
+        marks[i + 1] = m;
+        before = here;
+        alive = alive | m;
+        i += 1;
+    }
+    alive
+}
+
+// The places alive after a piece.
 fn step(marks: [bool; 4096], text: &[u8], code: u32, path: &[u8]) -> Marks
     requires { ⌜ length (now path) ≤ 4095 ⌝ }
     ensures { λ r. ⌜ ((i : ℕ) → i ≤ length (now (path .entry)) → getD (r .places) i false ≡ after (decode (now (text .entry)) code) (now (path .entry)) marks i) ⌝ }
     ensures { λ r. ⌜ r .alive ≡ someUpTo (after (decode (now (text .entry)) code) (now (path .entry)) marks) (length (now (path .entry))) ⌝ }
 {
-    let many = repeats(code);
-    let mut next = marks;
-    let mut before = marks[0];
-    let mut alive = mark(many, false, before, false, false);
-    next[0] = alive;
-    let mut i = 0;
-    while i < path.len() {
-        let ok = takes(text, code, path[i]);
-        let here = next[i + 1];
-        let m = mark(many, before, here, next[i], ok);
-        next[i + 1] = m;
-        before = here;
-        alive = alive | m;
-        i += 1;
-    }
-    Marks {
-        places: next,
-        alive,
-    }
+    let mut places = marks;
+    let alive = advance(&mut places, text, code, path);
+    Marks { places, alive }
 }
 
 // Whether all the pieces match the path, by the places that are alive after each.
@@ -140,6 +154,49 @@ fn walk_marks(text: &[u8], codes: &[u32], path: &[u8]) -> bool
     }
     let n = path.len();
     marks[n]
+}
+
+// The same for short marks.
+fn step_short(marks: [bool; 256], text: &[u8], code: u32, path: &[u8]) -> ShortMarks
+    requires { ⌜ length (now path) ≤ 255 ⌝ }
+    ensures { λ r. ⌜ ((i : ℕ) → i ≤ length (now (path .entry)) → getD (r .places) i false ≡ after (decode (now (text .entry)) code) (now (path .entry)) marks i) ⌝ }
+    ensures { λ r. ⌜ r .alive ≡ someUpTo (after (decode (now (text .entry)) code) (now (path .entry)) marks) (length (now (path .entry))) ⌝ }
+{
+    let mut places = marks;
+    let alive = advance(&mut places, text, code, path);
+    ShortMarks { places, alive }
+}
+
+// The same for a path of at most 255 bytes.
+fn walk_short(text: &[u8], codes: &[u32], path: &[u8]) -> bool
+    requires { ⌜ length (now path) ≤ 255 ⌝ }
+    ensures { λ r. ⌜ r ≡ matches (map (decode (now (text .entry))) (now (codes .entry))) (now (path .entry)) ⌝ }
+{
+    let mut marks = [false; 256];
+    marks[0] = true;
+    let mut k = 0;
+    while k < codes.len() {
+        let s = step_short(marks, text, codes[k], path);
+        if s.alive {
+            marks = s.places;
+            k = k + 1;
+        } else {
+            return false;
+        }
+    }
+    let n = path.len();
+    marks[n]
+}
+
+// Whether all the pieces match the path, by as many marks as its length needs.
+fn walk_places(text: &[u8], codes: &[u32], path: &[u8]) -> bool
+    requires { ⌜ length (now path) ≤ 4095 ⌝ }
+    ensures { λ r. ⌜ r ≡ matches (map (decode (now (text .entry))) (now (codes .entry))) (now (path .entry)) ⌝ }
+{
+    if path.len() <= 255 {
+        return walk_short(text, codes, path);
+    }
+    walk_marks(text, codes, path)
 }
 
 // Whether a piece is no star and takes a byte.
@@ -210,7 +267,7 @@ fn walk_back(text: &[u8], codes: &[u32], path: &[u8]) -> bool
             return takes_all(last, &path[..m]);
         }
     }
-    walk_marks(text, &codes[..k], &path[..m])
+    walk_places(text, &codes[..k], &path[..m])
 }
 
 // Whether all the pieces match the path: from its front they are compared up to a star, and what is left walked from the back.

@@ -53,20 +53,20 @@ returns-2 c =
     c .takes-all .ensures (now (a .text)) (sym (c .before .before .before .before .repeats .ensures (now (a .text))) ∙ not-false _ (c .before .before .before .if2 .left))
     ∙ sym (back-only (now (a .text)) (now (a .codes)) (now (a .path)) (n .result) (n .ensures) (c .before .before .if3 .taken))
 
-slice-aggregate-walk-marks : tie.Need-slice-aggregate-walk-marks
-slice-aggregate-walk-marks c = sym (length-take-le _ _ (omega arith))
+slice-aggregate-walk-places : tie.Need-slice-aggregate-walk-places
+slice-aggregate-walk-places c = sym (length-take-le _ _ (omega arith))
 
-slice-aggregate-walk-marks-2 : tie.Need-slice-aggregate-walk-marks-2
-slice-aggregate-walk-marks-2 c = sym (length-take-le _ _ (omega arith))
+slice-aggregate-walk-places-2 : tie.Need-slice-aggregate-walk-places-2
+slice-aggregate-walk-places-2 c = sym (length-take-le _ _ (omega arith))
 
-walk-marks-requires : tie.Need-walk-marks-requires
-walk-marks-requires c κs = simp length-take (omega arith)
+walk-places-requires : tie.Need-walk-places-requires
+walk-places-requires c κs = simp length-take (omega arith)
 
 returns-3 : tie.Need-returns-3
 returns-3 c =
     let a = c .before .before .before .before .before .before .before .before .args in
     let n = c .before .before .before .before .taken-back in
-    c .walk-marks .ensures ∙ sym (back-left (now (a .text)) (now (a .codes)) (now (a .path)) (n .result) (n .ensures))
+    c .walk-places .ensures ∙ sym (back-left (now (a .text)) (now (a .codes)) (now (a .path)) (n .result) (n .ensures))
 
 pub walk-back-spec : {M : Type 1} → statement M
 walk-back-spec =
@@ -83,7 +83,7 @@ walk-back-spec =
     slice-aggregate-takes-all
     takes-all-requires
     returns-2
-    slice-aggregate-walk-marks
-    slice-aggregate-walk-marks-2
-    walk-marks-requires
+    slice-aggregate-walk-places
+    slice-aggregate-walk-places-2
+    walk-places-requires
     returns-3)
