@@ -1,4 +1,6 @@
 // The answer that findings give.
+#![tactic(auto)]
+
 ghost use Rattle.std.specs.Prelude.{◌≡◌, List, [], ℕ};
 ghost use Rattle.std.specs.Int.Bits.{bit_and};
 ghost use Rattle.perms.specs.Sets.{perms};
@@ -13,21 +15,21 @@ use perms::Perms;
 use text::{Place, Refusal, Span};
 
 // The target of a transition: its bytes and how many they are; zero beyond them.
-#[derive(Drop)]
+#[derive(Clone, Copy)]
 pub struct Target {
     pub bytes: [u8; 255],
     pub len: usize,
 }
 
 // Whether the request was refused, and why.
-#[derive(Drop)]
+#[derive(Clone, Copy)]
 pub enum Verdict {
     Answered,
     Refused(Refusal),
 }
 
 // The whole answer. A refusal grants and records nothing and names no target.
-#[derive(Drop)]
+#[derive(Clone, Copy)]
 pub struct Answer {
     pub verdict: Verdict,
     pub granted: Perms,
@@ -37,7 +39,7 @@ pub struct Answer {
 }
 
 // An answer whose target is told by its place in the text, an empty one where there is none.
-#[derive(Drop)]
+#[derive(Clone, Copy)]
 pub struct Brief {
     pub verdict: Verdict,
     pub granted: Perms,

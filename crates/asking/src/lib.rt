@@ -1,4 +1,6 @@
 // Asking what was read once: what stands before and behind the walk over the records, and what it does with one of them.
+#![tactic(auto)]
+
 ghost use Rattle.std.specs.Prelude.{◌≡◌, List, [], ℕ, min, get_or, drop};
 ghost use Rattle.pattern.specs.Table.{env};
 ghost use Rattle.rule.specs.Places.{rule_of};
@@ -35,7 +37,7 @@ const NO_PROFILE: u8 = 11;
 
 // What is known of a request before the records are walked: the number of its refusal, or 0 and the number of its profile, how many
 // variables are set, how many records there are, and the first words of the path.
-#[derive(Drop)]
+#[derive(Clone, Copy)]
 pub struct Query {
     pub refused: u8,
     pub profile: usize,

@@ -1,4 +1,6 @@
 // Holds a pattern to a path many times, to be timed. Call: bench CASE TURNS
+#![tactic(auto)]
+
 ghost use Rattle.std.specs.Prelude.{◌+◌, ◌≤◌, length};
 
 use faults::pattern_fault;
@@ -12,7 +14,7 @@ const NAMES: usize = 3072;
 const COUNT: usize = 11;
 
 // The place of a pattern in the text, and that of the path in a long one.
-#[derive(Drop)]
+#[derive(Clone, Copy)]
 struct Case {
     start: usize,
     end: usize,

@@ -1,4 +1,6 @@
 // What stands between tokens: blanks and comments.
+#![tactic(auto)]
+
 ghost use Rattle.std.specs.Prelude.{◌≡◌, ◌+◌, drop};
 ghost use Rattle.scan.specs.Bytes.{run};
 ghost use Rattle.blanks.specs.Blanks.{blank, includes, in_comment, standing, stands_at};

@@ -1,4 +1,6 @@
 // The rules of a profile, read from a text.
+#![tactic(auto)]
+
 ghost use Rattle.std.specs.Prelude.{◌≡◌};
 ghost use Rattle.faults.specs.Sized.{fault_by};
 ghost use Rattle.rule.specs.Rules.{end_at, rules_at};
@@ -10,7 +12,7 @@ use text::{Place, Stop, TOO_MUCH};
 use tokens::{Read, stop_of};
 
 // The number of rules and where reading goes on, or the refusal.
-#[derive(Drop)]
+#[derive(Clone, Copy)]
 pub enum RulesRead {
     Good { count: usize, next: Place },
     Refused(Stop),

@@ -1,6 +1,8 @@
 // Answers requests from standard input, one a line, as document 01's case program writes them. A request has five fields
 // parted by tabs: text, profile name and path in hex, the asked number, the owner mark 0 or 1. Each is also asked of what is read of
 // its text; where that answer is another, it is written too.
+#![tactic(auto)]
+
 ghost use Rattle.std.specs.Prelude.{◌≤◌, ◌<◌};
 ghost use Rattle.io.specs.Counts.{IsPrefixLen};
 

@@ -1,4 +1,6 @@
 // The first choices of a pattern, held to a path before anything is expanded.
+#![tactic(auto)]
+
 ghost use Rattle.std.specs.Prelude.{◌≡◌, ◌<◌, drop};
 ghost use Rattle.scan.specs.Bytes.{span};
 ghost use Rattle.pattern.specs.Items.{alternatives};

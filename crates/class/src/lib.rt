@@ -1,4 +1,6 @@
 // Classes of a pattern.
+#![tactic(auto)]
+
 ghost use Rattle.std.specs.Prelude.{◌≡◌, ◌<◌, length, drop};
 ghost use Rattle.scan.specs.Bytes.{between, every, some};
 ghost use Rattle.class.specs.Class.{Range, good_class, good_range, in_class, member_byte, negated, ranges};

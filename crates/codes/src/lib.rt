@@ -1,4 +1,6 @@
 // The codes of an expansion, before it is held to a path.
+#![tactic(auto)]
+
 ghost use Rattle.std.specs.Prelude.{◌≡◌, List, map, ℕ, take, drop};
 ghost use Rattle.scan.specs.Bytes.{every, if◌then◌else◌};
 ghost use Rattle.pattern.specs.Expansions.{is_literal};
@@ -10,7 +12,7 @@ use scan::least;
 
 // How far the first literals of an expansion agree with a path: the place in it, whether a / stands before that,
 // whether a piece that is no literal was met, and whether a literal differed.
-#[derive(Drop)]
+#[derive(Clone, Copy)]
 pub struct Held {
     pub at: usize,
     pub slash: bool,

@@ -1,4 +1,6 @@
 // The answer to a text, a profile name and a request.
+#![tactic(auto)]
+
 ghost use Rattle.std.specs.Prelude.{◌≡◌, ◌≤◌};
 ghost use Rattle.pattern.specs.Table.{env};
 ghost use Rattle.profile.specs.Places.{profiles_from};
@@ -23,7 +25,7 @@ const BAD_ASKED: u8 = 3;
 const NO_PROFILE: u8 = 11;
 
 // The rules of a profile: where they start and how many they are; or that there is no such profile.
-#[derive(Drop)]
+#[derive(Clone, Copy)]
 pub enum Found {
     Rules { at: Place, count: usize },
     Nowhere,

@@ -1,4 +1,6 @@
 // A pattern without choices against a path, as it is written: nothing is expanded, measured or cleared.
+#![tactic(auto)]
+
 ghost use Rattle.std.specs.Prelude.{◌≡◌, false, ◌≤◌, eqb, length, drop};
 ghost use Rattle.scan.specs.Bytes.{if◌then◌else◌};
 ghost use Rattle.pattern.specs.Pieces.{up_to};
@@ -12,7 +14,7 @@ use front::plain;
 use scan::{begins_at, holds_byte, span};
 
 // What is told: the pattern does not match the path, it does if it has no fault, or that is not told here.
-#[derive(Drop)]
+#[derive(Clone, Copy)]
 pub enum Outcome {
     Miss,
     Hit,
@@ -20,14 +22,14 @@ pub enum Outcome {
 }
 
 // A piece of one byte: how many bytes of the pattern write it, none where there is no such piece, and whether it takes the path's byte.
-#[derive(Drop)]
+#[derive(Clone, Copy)]
 pub struct One {
     pub width: usize,
     pub takes: bool,
 }
 
 // How far pieces of one byte went in the pattern and in the path, or that one of them did not take its byte.
-#[derive(Drop)]
+#[derive(Clone, Copy)]
 struct Reached {
     gone: bool,
     at: usize,

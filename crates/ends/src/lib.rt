@@ -1,4 +1,6 @@
 // Where the parts and items of patterns and values end.
+#![tactic(auto)]
+
 ghost use Rattle.std.specs.Prelude.{◌≡◌, ◌+◌, drop};
 ghost use Rattle.scan.specs.Bytes.{run};
 ghost use Rattle.pattern.specs.Pieces.{up_to, extra};

@@ -1,4 +1,6 @@
 // What reading keeps of a text: a head of numbers, and a record of each rule.
+#![tactic(auto)]
+
 ghost use Rattle.std.specs.Prelude.{◌≡◌, false, ◌+◌, ◌≤◌, length};
 ghost use Rattle.std.proofs.Math.Seq.{paste};
 ghost use Rattle.rule.specs.Places.{rule_of};
@@ -31,14 +33,14 @@ pub const RULE_COUNT: usize = 1250;
 const LONG_TEXT: u8 = 1;
 
 // A rule, and the words of its pattern's front.
-#[derive(Drop)]
+#[derive(Clone, Copy)]
 pub struct Record {
     pub rule: Rule,
     pub front: Front,
 }
 
 // Whether the head is too short, or the text refused; how many records are filled.
-#[derive(Drop)]
+#[derive(Clone, Copy)]
 pub struct Reading {
     pub short: bool,
     pub refused: bool,
@@ -118,7 +120,7 @@ pub fn judge(text: &[u8], head: &mut [usize], rooms: usize) -> Reading
 // ---- the rules of an accepted text, one by one
 
 // A place among the rules of a text: the number of a profile, how many of its rules are left, and where they start.
-#[derive(Drop)]
+#[derive(Clone, Copy)]
 pub struct Cursor {
     pub profile: usize,
     pub left: usize,
@@ -126,7 +128,7 @@ pub struct Cursor {
 }
 
 // Whether there is one more rule, its record, and where reading goes on.
-#[derive(Drop)]
+#[derive(Clone, Copy)]
 pub struct Next {
     pub some: bool,
     pub record: Record,

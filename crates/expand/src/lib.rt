@@ -1,4 +1,6 @@
 // One expansion of a pattern, by its number, written as codes to a lent buffer.
+#![tactic(auto)]
+
 ghost use Rattle.std.specs.Prelude.{◌≡◌, List, ◌∷◌, [], map, ℕ, ◌+◌, ◌≤◌, ◌<◌, length};
 ghost use Rattle.scan.specs.Bytes.{span, if◌then◌else◌};
 ghost use Rattle.pattern.specs.Pieces.{Byte};
@@ -19,14 +21,14 @@ use scan::{least, span};
 use variables::{cell, named};
 
 // How many codes were written, and whether the expansion was given up.
-#[derive(Drop)]
+#[derive(Clone, Copy)]
 pub struct Draft {
     pub count: usize,
     pub gone: bool,
 }
 
 // A value or alternative, and the number of one of its expansions.
-#[derive(Drop)]
+#[derive(Clone, Copy)]
 pub struct Choice {
     pub start: usize,
     pub end: usize,

@@ -1,4 +1,6 @@
 // What is refused of a value or a pattern, by the numbers of document 01; 0 where nothing is.
+#![tactic(auto)]
+
 ghost use Rattle.std.specs.Prelude.{◌≡◌};
 ghost use Rattle.scan.specs.Bytes.{span};
 ghost use Rattle.pattern.specs.Faults.{value_fault};

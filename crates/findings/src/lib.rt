@@ -1,4 +1,6 @@
 // The findings of rules on a request, gathered one matching rule at a time.
+#![tactic(auto)]
+
 ghost use Rattle.std.specs.Prelude.{◌≡◌};
 ghost use Rattle.scan.specs.Bytes.{if◌then◌else◌};
 ghost use Rattle.rule.specs.Places.{rule_of};
@@ -12,7 +14,7 @@ use rule::Rule;
 use text::Span;
 
 // The members of a set of transitions: none, one, or more.
-#[derive(Drop)]
+#[derive(Clone, Copy)]
 pub enum Choice {
     None,
     Single { mode: Mode, target: Span },
@@ -20,14 +22,14 @@ pub enum Choice {
 }
 
 // The permissions that matching rules carry, and those among them from audit rules.
-#[derive(Drop)]
+#[derive(Clone, Copy)]
 pub struct Carried {
     pub all: Perms,
     pub audited: Perms,
 }
 
 // What the matching allow rules and deny rules carry, and the transitions of exact and of other matches.
-#[derive(Drop)]
+#[derive(Clone, Copy)]
 pub struct Findings {
     pub allowed: Carried,
     pub denied: Carried,

@@ -1,5 +1,7 @@
 // A table of rule records as plain numbers, for callers whose language has no such records: a head of HEAD numbers, and WORDS
 // numbers for each record.
+#![tactic(auto)]
+
 ghost use Rattle.std.specs.Prelude.{◌≡◌, List, ℕ, ◌+◌, ◌≤◌, ◌<◌, length};
 ghost use Rattle.std.proofs.Math.Seq.{paste};
 ghost use Rattle.modes.specs.Modes.{kind_number, fallback_number};

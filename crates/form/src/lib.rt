@@ -1,4 +1,6 @@
 // The form of patterns and values, and the names that they use.
+#![tactic(auto)]
+
 ghost use Rattle.std.specs.Prelude.{◌≡◌, List, ℕ, length, leb};
 ghost use Rattle.scan.specs.Bytes.{every, span};
 ghost use Rattle.pattern.specs.Items.{alternatives, good_part, good_item, value_form, pattern_form, names_part, names_item, value_names, pattern_names};

@@ -1,4 +1,6 @@
 // The front of a pattern: its first bytes that are literals whatever stands behind them.
+#![tactic(auto)]
+
 ghost use Rattle.std.specs.Prelude.{true, false, ◌≡◌, ℕ, ◌+◌, ◌≤◌, ◌<◌, length, take};
 ghost use Rattle.pattern.specs.Literals.{special};
 ghost use Rattle.scan.specs.Bytes.{span};
@@ -8,7 +10,7 @@ use ends::is_ordinary;
 use scan::{least, span};
 
 // How a path begins: whether with the front of a pattern, how long that is, and whether a / stands before what follows it.
-#[derive(Drop)]
+#[derive(Clone, Copy)]
 pub struct Led {
     pub fits: bool,
     pub len: usize,

@@ -1,4 +1,6 @@
 // A whole pattern against a path: every expansion is tried.
+#![tactic(auto)]
+
 ghost use Rattle.std.specs.Prelude.{◌≡◌, true, false, ◌&&◌, List, map, take};
 ghost use Rattle.scan.specs.Bytes.{holds, span, if◌then◌else◌};
 ghost use Rattle.pattern.specs.Codes.{decode};
@@ -28,7 +30,7 @@ const SHORT: usize = 128;
 const CHOICES: usize = 2;
 
 // Whether some expansion matches, and whether one of literals only does.
-#[derive(Drop)]
+#[derive(Clone, Copy)]
 pub struct Matched {
     pub some: bool,
     pub exact: bool,

@@ -1,4 +1,6 @@
 // The heads of profiles: profile NAME { or /name {.
+#![tactic(auto)]
+
 ghost use Rattle.std.specs.Prelude.{◌≡◌, min, leb};
 ghost use Rattle.scan.specs.Bytes.{same, some, span};
 ghost use Rattle.tokens.specs.Tokens.{wanted};
@@ -52,7 +54,7 @@ fn name_at(text: &[u8], at: Place) -> Read
 }
 
 // Where reading goes on after the {, or the refusal.
-#[derive(Drop)]
+#[derive(Clone, Copy)]
 pub enum OpenRead {
     Good(Place),
     Refused(Stop),
@@ -95,7 +97,7 @@ fn is_used(text: &[u8], table: &[usize; 128], n: usize, a: usize, e: usize) -> b
 }
 
 // A name and where the rules start, or the refusal.
-#[derive(Drop)]
+#[derive(Clone, Copy)]
 pub enum HeadRead {
     Good { name: Span, next: Place },
     Refused(Stop),

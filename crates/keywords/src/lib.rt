@@ -1,4 +1,6 @@
 // The words that no statement may start with.
+#![tactic(auto)]
+
 ghost use Rattle.std.specs.Prelude.{◌≡◌, [], drop};
 ghost use Rattle.scan.specs.Bytes.{bytes, same, some};
 ghost use Rattle.keywords.specs.Keywords.{barred, cut, first_word, fixed_words, opening};

@@ -1,4 +1,6 @@
 // Paths against patterns.
+#![tactic(auto)]
+
 ghost use Rattle.std.specs.Prelude.{◌≡◌, true, false, ◌&&◌, List, map, reverse, ℕ, ◌+◌, ◌-◌, ◌≤◌, ◌<◌, length, get_or, take, drop};
 ghost use Rattle.scan.specs.Bytes.{run};
 ghost use Rattle.pattern.specs.Codes.{bracketed, decode, not_close};
@@ -15,14 +17,14 @@ const STAR_STAR: u32 = 258;
 const CLASS: u32 = 65536;
 
 // Which places of the path are alive, and whether any is.
-#[derive(Drop)]
+#[derive(Clone, Copy)]
 struct Marks {
     places: [bool; 4096],
     alive: bool,
 }
 
 // The same of a path of at most 255 bytes: sixteen times fewer are copied for each piece.
-#[derive(Drop)]
+#[derive(Clone, Copy)]
 struct ShortMarks {
     places: [bool; 256],
     alive: bool,

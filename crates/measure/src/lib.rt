@@ -1,4 +1,6 @@
 // The sizes of the parts, values, items and patterns of a text by a table of the sizes of the variables.
+#![tactic(auto)]
+
 ghost use Rattle.std.specs.Prelude.{◌≡◌, ℕ, ◌+◌, ◌≤◌, ◌<◌, List, [], ◌∷◌, map, length};
 ghost use Rattle.scan.specs.Bytes.{span};
 ghost use Rattle.pattern.specs.Pieces.{Byte};
@@ -19,7 +21,7 @@ use variables::{cell, named};
 
 // The size of no expansion in row 0, then that of each variable; row r has its count at 4 * r, its longest at 4 * r + 1,
 // and whether it is empty and slashed, as 0 or 1, at 4 * r + 2 and 4 * r + 3.
-#[derive(Drop)]
+#[derive(Clone, Copy)]
 pub struct Sizes {
     pub table: [usize; 132],
 }

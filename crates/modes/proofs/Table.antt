@@ -39,7 +39,7 @@ below_at (suc n) f e (suc k) h = below_at n (λ k. f (suc k)) (both (f 0) (below
 
 -- the code's columns: the words at every third place, the first seven of two bytes, and a number for each part of the mode
 abbrev pub words : List ℕ
-words = bytes "ux Ux px Px cx Cx ix pix_pixcix_cixpux_pUxcux_cUx"
+words = bytes "ux Ux px Px cx Cx ix pixPixcixCixpuxPUxcuxCUx"
 
 abbrev width : ℕ → ℕ
 width i = if ltb i 7 then 2 else 3

@@ -1,10 +1,12 @@
 // Execute modes, as one table, and execute answers.
+#![tactic(auto)]
+
 ghost use Rattle.std.specs.Prelude.{◌≡◌, ◌<◌, length, get_or, take};
 ghost use Rattle.scan.specs.Bytes.{bytes, same};
 ghost use Rattle.modes.specs.Modes.{modes, no_row, mode_in, kind_number, fallback_number, same_mode, number_in, word_in, execute_number, execute_word};
 
 // Where an execute mode leads.
-#[derive(Drop)]
+#[derive(Clone, Copy)]
 pub enum Kind {
     Unconfined,
     Profile,
@@ -13,7 +15,7 @@ pub enum Kind {
 }
 
 // Where it leads if the profile is missing.
-#[derive(Drop)]
+#[derive(Clone, Copy)]
 pub enum Fallback {
     Absent,
     Inherit,
@@ -21,7 +23,7 @@ pub enum Fallback {
 }
 
 // An execute mode; `scrubs` says that the environment is scrubbed.
-#[derive(Drop)]
+#[derive(Clone, Copy)]
 pub struct Mode {
     pub kind: Kind,
     pub fallback: Fallback,
@@ -29,7 +31,7 @@ pub struct Mode {
 }
 
 // An execute answer.
-#[derive(Drop)]
+#[derive(Clone, Copy)]
 pub enum Execute {
     NotAsked,
     Denied,
@@ -38,14 +40,14 @@ pub enum Execute {
 }
 
 // The transition of a rule: the execute mode that its PERMS name, if any.
-#[derive(Drop)]
+#[derive(Clone, Copy)]
 pub enum Transition {
     Absent,
     ByMode(Mode),
 }
 
 // An answer as written: the first bytes, as many as counted.
-#[derive(Drop)]
+#[derive(Clone, Copy)]
 pub struct Written {
     pub bytes: [u8; 8],
     pub len: usize,
@@ -90,7 +92,7 @@ impl Execute {
 // The table of modes, a column each: the mode as written, in three bytes; its kind; its fallback; 1 where it scrubs.
 const ROWS: usize = 15;
 
-const WORDS: [u8; 45] = *b"ux Ux px Px cx Cx ix pix_pixcix_cixpux_pUxcux_cUx";
+const WORDS: [u8; 45] = *b"ux Ux px Px cx Cx ix pixPixcixCixpuxPUxcuxCUx";
 
 const KINDS: [u8; ROWS] = [0, 0, 1, 1, 2, 2, 3, 1, 1, 2, 2, 1, 1, 2, 2];
 

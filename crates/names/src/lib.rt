@@ -1,4 +1,6 @@
 // The form of the names of profiles and targets, and of variables.
+#![tactic(auto)]
+
 ghost use Rattle.std.specs.Prelude.{◌≡◌, ◌+◌, drop};
 ghost use Rattle.scan.specs.Bytes.{every, letter, run};
 ghost use Rattle.names.specs.Names.{name_byte, name_first, name_form, name_start, variable_byte, variable_fault, variable_form};

@@ -1,4 +1,6 @@
 // The parts and items of patterns and values, read at a place.
+#![tactic(auto)]
+
 ghost use Rattle.std.specs.Prelude.{◌≡◌, ltb, drop};
 ghost use Rattle.scan.specs.Bytes.{span, if◌then◌else◌};
 ghost use Rattle.pattern.specs.Places.{part_at, item_at, lone};

@@ -1,9 +1,11 @@
 // Permission sets.
+#![tactic(auto)]
+
 ghost use Rattle.std.specs.Prelude.{◌≡◌};
 ghost use Rattle.perms.specs.Sets.{unite, without, within};
 
 // A permission set: the sum of the numbers of its permissions.
-#[derive(Drop)]
+#[derive(Clone, Copy)]
 pub struct Perms(pub u8);
 
 impl Perms {

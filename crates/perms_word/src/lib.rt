@@ -1,4 +1,6 @@
 // The PERMS words of rules.
+#![tactic(auto)]
+
 ghost use Rattle.std.specs.Prelude.{◌≡◌, ◌+◌, [], ◌∷◌, drop};
 ghost use Rattle.scan.specs.Bytes.{run};
 ghost use Rattle.perms.specs.Sets.{perms};
@@ -8,7 +10,7 @@ use modes::Transition;
 use perms::Perms;
 
 // What a PERMS word says, or that it is none.
-#[derive(Drop)]
+#[derive(Clone, Copy)]
 pub enum Word {
     Carries {
         perms: Perms,

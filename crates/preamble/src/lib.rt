@@ -1,4 +1,6 @@
 // The assignments in front of the profiles.
+#![tactic(auto)]
+
 ghost use Rattle.std.specs.Prelude.{◌≡◌, List, [], true, ℕ, ◌+◌, ◌≤◌, ◌<◌, length, drop};
 ghost use Rattle.scan.specs.Bytes.{bytes, run, span};
 ghost use Rattle.blanks.specs.Blanks.{in_line, stands_at};
@@ -17,14 +19,14 @@ use tokens::{Read, next_token, stop_of};
 use variables::{named, value_count, with_name, with_value};
 
 // = or +=, and where reading goes on, or neither.
-#[derive(Drop)]
+#[derive(Clone, Copy)]
 pub enum OperatorRead {
     Found { adds: bool, next: Place },
     Missing,
 }
 
 // The refusal, or whether a value was read and where reading goes on.
-#[derive(Drop)]
+#[derive(Clone, Copy)]
 pub struct ValuesRead {
     pub refused: bool,
     pub stop: Stop,
@@ -33,14 +35,14 @@ pub struct ValuesRead {
 }
 
 // How many variables are set, and which of them is given values.
-#[derive(Drop)]
+#[derive(Clone, Copy)]
 pub struct Opened {
     pub count: usize,
     pub w: usize,
 }
 
 // The refusal, or how many variables are set and where reading goes on.
-#[derive(Drop)]
+#[derive(Clone, Copy)]
 pub struct PreambleRead {
     pub refused: bool,
     pub stop: Stop,

@@ -1,4 +1,6 @@
 // Writing to standard output, for the programs.
+#![tactic(auto)]
+
 ghost use Rattle.std.specs.Prelude.{◌≡◌, not, eqb};
 
 use libc::STDOUT_FILENO;

@@ -1,4 +1,6 @@
 // The profiles of a text, and the whole text.
+#![tactic(auto)]
+
 ghost use Rattle.std.specs.Prelude.{◌≡◌, [], ◌≤◌, ◌<◌, min, leb};
 ghost use Rattle.tokens.specs.Tokens.{no_stop, token_at};
 ghost use Rattle.pattern.specs.Table.{env};
@@ -21,7 +23,7 @@ pub const RULES: usize = 512;
 
 // The profiles of a text: profile i has the places of its name at 4 * i and 4 * i + 1 of the table, the place where its
 // rules start at 4 * i + 2, and their number at 4 * i + 3.
-#[derive(Drop)]
+#[derive(Clone, Copy)]
 pub struct Profiles {
     pub table: [usize; 128],
     pub count: usize,
@@ -54,7 +56,7 @@ fn ends_at(text: &[u8], at: Place) -> bool
 }
 
 // A profile: its name, where its rules start, how many they are and where reading goes on, or the refusal.
-#[derive(Drop)]
+#[derive(Clone, Copy)]
 pub enum ProfileRead {
     Good {
         name: Span,
@@ -110,7 +112,7 @@ fn with_profile(profiles: Profiles, name: Span, rules: Place, count: usize) -> P
 }
 
 // The refusal, or the profiles and how many rules they have.
-#[derive(Drop)]
+#[derive(Clone, Copy)]
 pub struct ProfilesRead {
     pub refused: bool,
     pub stop: Stop,
@@ -171,7 +173,7 @@ fn profiles_at(
 // ---- the whole text
 
 // The refusal, or how many variables are set, the table of profiles, how many it has, and how many rules these have.
-#[derive(Drop)]
+#[derive(Clone, Copy)]
 pub struct FileRead {
     pub refused: bool,
     pub refusal: Refusal,

@@ -1,4 +1,6 @@
 // What a request may not be, whatever the text holds.
+#![tactic(auto)]
+
 ghost use Rattle.std.specs.Prelude.{◌+◌, ◌≤◌, ◌≡◌, ◌||◌, length, take, drop};
 ghost use Rattle.scan.specs.Bytes.{holds};
 ghost use Rattle.blanks.specs.Blanks.{nul};

@@ -1,4 +1,6 @@
 // The head of a rule, read from a text: its qualifiers and its pattern.
+#![tactic(auto)]
+
 ghost use Rattle.std.specs.Prelude.{◌≡◌};
 ghost use Rattle.tokens.specs.Tokens.{no_stop, token_at, wanted};
 ghost use Rattle.tokens.specs.Places.{seen};
@@ -13,7 +15,7 @@ use tokens::Read;
 // ---- a rule
 
 // A rule of the profile with this number: its pattern and its target, empty where there is none, are places of the text.
-#[derive(Drop)]
+#[derive(Clone, Copy)]
 pub struct Rule {
     pub profile: usize,
     pub audit: bool,
@@ -28,7 +30,7 @@ pub struct Rule {
 // ---- the qualifiers
 
 // Whether a word stands at a place, where reading goes on, and the token there.
-#[derive(Drop)]
+#[derive(Clone, Copy)]
 struct Optional {
     found: bool,
     next: Place,
@@ -79,7 +81,7 @@ fn take_deny(text: &[u8], allow: Optional) -> Optional
 }
 
 // The qualifiers of a rule, whether there are some, where reading goes on, and the token there.
-#[derive(Drop)]
+#[derive(Clone, Copy)]
 pub struct Qualifiers {
     pub audit: bool,
     pub deny: bool,

@@ -1,4 +1,6 @@
 // What follows the pattern of a rule, read from a text.
+#![tactic(auto)]
+
 ghost use Rattle.std.specs.Prelude.{◌≡◌};
 ghost use Rattle.rule_tail.specs.Tails.{comma_at, leads_to_profile, perms_at, takes_target, target_at};
 ghost use Rattle.rule_tail.specs.Places.{seen_comma, seen_perms, seen_target, target_after};
@@ -11,7 +13,7 @@ use text::{BAD_FORM, BAD_PERMS, Place, Span, Stop, TOO_MUCH};
 use tokens::Read;
 
 // What PERMS carry and where reading goes on, or the refusal.
-#[derive(Drop)]
+#[derive(Clone, Copy)]
 pub enum PermsRead {
     Good {
         perms: Perms,
@@ -53,7 +55,7 @@ pub fn perms_at(text: &[u8], deny: bool, at: Place) -> PermsRead
 }
 
 // A target, an empty span where there is none, and where reading goes on, or the refusal.
-#[derive(Drop)]
+#[derive(Clone, Copy)]
 pub enum TargetRead {
     Good { target: Span, next: Place },
     Refused(Stop),
@@ -140,7 +142,7 @@ pub fn target_at(text: &[u8], transition: Transition, at: Place) -> TargetRead
 }
 
 // Where reading goes on after the comma, or the refusal.
-#[derive(Drop)]
+#[derive(Clone, Copy)]
 pub enum CommaRead {
     Good(Place),
     Refused(Stop),

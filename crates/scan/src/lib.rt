@@ -1,4 +1,6 @@
 // Bytes compared and looked for.
+#![tactic(auto)]
+
 ghost use Rattle.std.specs.Prelude.{◌≡◌, min, drop};
 ghost use Rattle.scan.specs.Bytes.{begins, between, span, same, holds};
 

@@ -1,4 +1,6 @@
 // The entry points for C.
+#![tactic(auto)]
+
 ghost use Rattle.std.specs.Prelude.{◌≡◌, ◌++◌, not, eqb, ltb, length, drop};
 ghost use Rattle.scan.specs.Bytes.{if◌then◌else◌};
 ghost use Rattle.text.specs.Reading.{nowhere};

@@ -1,4 +1,6 @@
 // The size of a list of expansions, and of lists put together.
+#![tactic(auto)]
+
 ghost use Rattle.std.specs.Prelude.{◌≡◌, max};
 ghost use Rattle.sizes.specs.Sizes.{limit_of, times_of, plus_of};
 
@@ -6,7 +8,7 @@ use scan::least;
 
 // The size of a list of expansions: how many there are, up to 257, and the most pieces of one, up to 1025;
 // whether one has no piece; whether each has no piece or begins with a literal /.
-#[derive(Drop)]
+#[derive(Clone, Copy)]
 pub struct Size {
     pub count: usize,
     pub longest: usize,

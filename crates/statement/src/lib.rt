@@ -1,4 +1,6 @@
 // One rule of a profile, or the } that ends it, read from a text.
+#![tactic(auto)]
+
 ghost use Rattle.std.specs.Prelude.{◌≡◌};
 ghost use Rattle.tokens.specs.Places.{token_of};
 ghost use Rattle.faults.specs.Sized.{fault_by};
@@ -15,7 +17,7 @@ use text::{Place, Span, Stop};
 use tokens::{Read, Token, stop_of};
 
 // A rule and where reading goes on, or the refusal.
-#[derive(Drop)]
+#[derive(Clone, Copy)]
 pub enum RuleRead {
     Good { rule: Rule, next: Place },
     Refused(Stop),
@@ -103,7 +105,7 @@ fn rule_from(
 
 // What stands where a rule could start: the } that ends the profile and where reading goes on behind it, the qualifiers of a
 // rule and the token of its pattern, or the refusal.
-#[derive(Drop)]
+#[derive(Clone, Copy)]
 pub enum Start {
     Close { next: Place },
     Pattern { q: Qualifiers, token: Token },
@@ -128,7 +130,7 @@ fn start_at(text: &[u8], at: Place) -> Start
 }
 
 // One rule more, or the } that ends the profile, and where reading goes on, or the refusal.
-#[derive(Drop)]
+#[derive(Clone, Copy)]
 pub enum Step {
     Rule { rule: Rule, next: Place },
     Close { next: Place },

@@ -1,4 +1,6 @@
 // A table of rule records that the caller lends: filled by reading once, walked by each request.
+#![tactic(auto)]
+
 ghost use Rattle.std.specs.Prelude.{◌≡◌};
 ghost use Rattle.entries.specs.Entries.{policy_in};
 ghost use Rattle.entries.specs.Filled.{Filled};

@@ -1,14 +1,16 @@
 // Places of a text, and the refusals that name them.
+#![tactic(auto)]
+
 ghost use Rattle.std.specs.Prelude.{◌≡◌, drop};
 ghost use Rattle.scan.specs.Bytes.{starts_with};
 ghost use Rattle.text.specs.Reading.{nowhere, refusal_at};
 
 // A place in a text: the number of bytes before it.
-#[derive(Drop)]
+#[derive(Clone, Copy)]
 pub struct Place(pub usize);
 
 // The places of some bytes of a text: from the first to before the end.
-#[derive(Drop)]
+#[derive(Clone, Copy)]
 pub struct Span {
     pub from: Place,
     pub end: Place,
@@ -26,14 +28,14 @@ pub const BAD_PERMS: u8 = 8;
 pub const TOO_MUCH: u8 = 9;
 
 // The number of a refusal and its place.
-#[derive(Drop)]
+#[derive(Clone, Copy)]
 pub struct Stop {
     pub number: u8,
     pub place: Place,
 }
 
 // A numbered refusal, its line and its column, both 0 where it has no place in the text.
-#[derive(Drop)]
+#[derive(Clone, Copy)]
 pub struct Refusal {
     pub number: u8,
     pub line: usize,

@@ -1,4 +1,6 @@
 // The tokens of a text.
+#![tactic(auto)]
+
 ghost use Rattle.std.specs.Prelude.{◌≡◌, ◌+◌, ◌<◌, length, drop};
 ghost use Rattle.scan.specs.Bytes.{run, span};
 ghost use Rattle.tokens.specs.Tokens.{is_word, in_quotes, plain, plain_token, quoted_token, token_at};
@@ -8,7 +10,7 @@ use scan::begins_at;
 use text::{BAD_FORM, NOT_TAKEN, Place, Stop};
 
 // A token starts at its opening quote, if it has one; its bytes stand at from to before end; reading goes on at next.
-#[derive(Drop)]
+#[derive(Clone, Copy)]
 pub struct Token {
     pub start: Place,
     pub from: Place,
@@ -18,7 +20,7 @@ pub struct Token {
 }
 
 // The next token, or the place where reading stopped: with a refusal, or at the text's end.
-#[derive(Drop)]
+#[derive(Clone, Copy)]
 pub enum Read {
     Found(Token),
     Stopped { number: u8, place: Place },

@@ -1,5 +1,7 @@
 // The table of the variables that are set, which is lent: variable w has the places of its name at 2 * w, the number of
 // its values at 64 + w, and the places of value k at 96 + 2 * (16 * w + k). At most 32 are set, with 16 values each.
+#![tactic(auto)]
+
 ghost use Rattle.std.specs.Prelude.{◌≡◌, min, ltb, length, get_or};
 ghost use Rattle.scan.specs.Bytes.{if◌then◌else◌, span};
 ghost use Rattle.pattern.specs.Table.{number_of};

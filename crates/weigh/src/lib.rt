@@ -1,4 +1,6 @@
 // The rules of a profile, weighed one by one on a request.
+#![tactic(auto)]
+
 ghost use Rattle.std.specs.Prelude.{◌≡◌, List, ℕ};
 ghost use Rattle.pattern.specs.Faults.{pattern_fault};
 ghost use Rattle.pattern.specs.Table.{env};

@@ -1,5 +1,7 @@
 // The first 16 bytes of a path, and those of a pattern's front, as two words: two comparisons say of most paths that the
 // front does not begin them.
+#![tactic(auto)]
+
 ghost use Rattle.std.specs.Prelude.{◌≡◌, ◌≤◌, length};
 ghost use Rattle.scan.specs.Bytes.{span};
 ghost use Rattle.front.specs.Front.{front};
@@ -9,14 +11,14 @@ use front::plain;
 use scan::span;
 
 // The first eight bytes of a path and the eight behind them, the lowest first, zero beyond the end.
-#[derive(Drop)]
+#[derive(Clone, Copy)]
 pub struct Words {
     pub first: usize,
     pub second: usize,
 }
 
 // The same of a pattern's front, each with the mask of the bytes that it has.
-#[derive(Drop)]
+#[derive(Clone, Copy)]
 pub struct Front {
     pub first: usize,
     pub second: usize,
