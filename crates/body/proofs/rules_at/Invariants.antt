@@ -1,0 +1,17 @@
+use borrow.Author.Rules.{rules}
+use native.Mathlib.Omega.{arith}
+use Prim.Native.Nat.{suc, ◌+◌, ◌≤◌, ◌-◌}
+use mathlib.Core.Path.{◌≡◌, sym, ◌∙◌}
+use Rattle.faults.specs.Sized.{fault_by}
+use Rattle.rule.specs.Rules.{rules_at}
+use Rattle.statement.specs.Steps.{counted}
+use Rattle.body.specs.Places.{seen_rules}
+use Rattle.statement.proofs.Laws.{count-close, count-end, count-more, count-refused, counted_from, from-none}
+use Rattle.body.proofs.rules_at.Given as goal
+
+abbrev pub invariant-loop-count : goal.invariant-loop-count
+invariant-loop-count l = (l.count ≤ l.left)
+    × (counted_from l.count (rules_at (l.left - l.count) (fault_by l.text l.vars l.n l.sizes) l.text l.place.0) ≡ counted (rules_at l.left (fault_by l.text l.vars l.n l.sizes) l.text l.initial.place.0))
+
+abbrev pub decreases-loop-count : goal.decreases-loop-count
+decreases-loop-count l = l.left - l.count

@@ -1,0 +1,33 @@
+use native.Mathlib.Omega.{arith}
+use Prim.Native.Nat.{◌≤◌, ◌-◌}
+use mathlib.Core.Path.{sym, ◌∙◌}
+use lib.ListN.{length}
+use Rattle.scan.specs.Bytes.{bytes}
+use Rattle.blanks.specs.Blanks.{standing}
+use Rattle.rule.specs.Rules.{body_at, end_at}
+use Rattle.rule.proofs.Laws.{pattern-from}
+use Rattle.tokens.specs.Places.{seen}
+use Rattle.tokens.proofs.Laws.{no-token}
+use Rattle.rule.specs.Places.{seen_qualifiers}
+use Rattle.body.specs.Places.{seen_rules}
+use Rattle.blanks.proofs.Laws.{stands-inside}
+use borrow.Author.Rules.{rules}
+use Rattle.body.proofs.rules_end.Goals as goal
+
+pub overflow_add-result : goal.overflow_add-result
+unfolding bytes
+overflow_add-result c =
+    let h : 1 ≤ length c.args.text.now - standing c.args.text.now c.args.at.0 = stands-inside (bytes "}") c.args.text.now c.args.at.0 (sym c.stands_at.ensures ∙ c.if-stands_at.true) in
+    omega (arith, c.standing_at-brace.ensures)
+
+pub returns-then-stands_at : goal.returns-then-stands_at
+unfolding end_at body_at seen_rules bytes
+returns-then-stands_at c = rw (c.standing_at-brace.ensures, ← c.stands_at.ensures, c.if-stands_at.true, body_at)
+
+pub returns-in_default : goal.returns-in_default
+unfolding end_at body_at seen seen_rules bytes
+returns-in_default c = rw (c.stop_of.ensures, ← c.stands_at.ensures, c.if-stands_at.false, ← c.qualifiers_at-q.ensures.is, ← pattern-from _ (seen_qualifiers c.qualifiers_at-q.result) c.qualifiers_at-q.ensures.token, ← c.pattern_at-token.ensures, no-token c.args.text.now c.pattern_at-token.result c.in_default.in_default-own.keys2, body_at)
+
+pub returns : goal.returns
+unfolding end_at body_at seen seen_rules bytes
+returns c = rw (← c.stands_at.ensures, c.if-stands_at.false, ← c.qualifiers_at-q.ensures.is, ← pattern-from _ (seen_qualifiers c.qualifiers_at-q.result) c.qualifiers_at-q.ensures.token, ← c.pattern_at-token.ensures, c.in-Found.is, seen, body_at)

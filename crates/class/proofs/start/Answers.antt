@@ -1,0 +1,11 @@
+use Rattle.class.specs.Places.{start_of}
+use borrow.Author.Rules.{rules}
+use Rattle.class.proofs.start.Goals as goal
+
+pub returns-then-negated : goal.returns-then-negated
+unfolding start_of
+returns-then-negated c = rw (← c.negated.ensures, c.if-negated.true)
+
+pub returns : goal.returns
+unfolding start_of
+returns c = rw (← c.negated.ensures, c.if-negated.false)

@@ -1,0 +1,20 @@
+use borrow.Author.Rules.{rules}
+use mathlib.Core.Path.{◌≡◌, refl, sym, ap, ◌∙◌}
+use mathlib.Core.Bool.{true, false}
+use mathlib.Core.List.{List, map}
+use Prim.Native.Nat.{ℕ, ◌+◌, ◌-◌, ◌≤◌, max}
+use native.Mathlib.Omega.{arith}
+use lib.ListN.{length, get_or, take, drop}
+use Rattle.pattern.specs.Codes.{decode}
+use Rattle.codes.specs.declared.Held.{Held}
+use Rattle.codes.specs.Held.{held_from, held_wild, held_pieces}
+use Rattle.codes.proofs.Laws.{take-least, held-still, held-literal, held-wild, held-differs, held-goes, held-room, held-code, held-end, held-over}
+use Rattle.codes.proofs.hold.Given as goal
+
+abbrev pub invariant-loop-i : goal.invariant-loop-i
+invariant-loop-i l = (l.at ≤ max l.initial.at (length l.path))
+    × ((text : List ℕ) → held_pieces l.path (held_from l.at l.slash) (map (decode text) (drop l.i (take l.end l.codes)))
+    ≡ held_pieces l.path (held_from l.initial.at l.initial.slash) (map (decode text) (drop l.from (take l.to l.codes))))
+
+abbrev pub decreases-loop-i : goal.decreases-loop-i
+decreases-loop-i l = l.end - l.i

@@ -1,0 +1,20 @@
+use borrow.Author.Rules.{rules}
+use native.Mathlib.Omega.{arith}
+use mathlib.Core.Path.{◌≡◌, ◌∙◌}
+use Prim.Native.Nat.{◌+◌, ◌-◌}
+use lib.ListN.{length, drop}
+use Rattle.pattern.specs.Items.{before}
+use Rattle.pattern.proofs.Laws.{before_more, before-stop, before-end, part_end-more}
+use Rattle.ends.proofs.seek.Goals as goal
+
+pub returns-then-s-place : goal.returns-then-s-place
+returns-then-s-place c = omega (arith, before-stop c.args.c c.args.s.now c.loop-place.place (omega arith) c.if-s-place.true)
+
+pub loop-place-smaller : goal.loop-place-smaller
+loop-place-smaller c = omega (arith, c.part_end-place.ensures, part_end-more c.args.s.now c.loop-place.place (omega arith))
+
+pub loop-place-preserved : goal.loop-place-preserved
+loop-place-preserved c = before_more c.args.c c.args.s.now c.loop-place.place c.part_end-place.result (omega arith) c.if-s-place.false c.part_end-place.ensures ∙ c.loop-place.invariant
+
+pub returns : goal.returns
+returns c = omega (arith, before-end c.args.c c.args.s.now c.loop-place.place (omega arith))

@@ -1,0 +1,14 @@
+use borrow.Author.Rules.{rules}
+use native.Mathlib.Omega.{arith}
+use mathlib.Core.Path.{◌≡◌, ◌∙◌}
+use Prim.Native.Nat.{◌+◌, ◌-◌}
+use lib.ListN.{length, drop}
+use Rattle.pattern.specs.Items.{before}
+use Rattle.pattern.proofs.Laws.{before_more, before-stop, before-end, part_end-more}
+use Rattle.ends.proofs.seek.Given as goal
+
+abbrev pub invariant-loop-place : goal.invariant-loop-place
+invariant-loop-place l = l.place + before l.c 0 (drop l.place l.s) ≡ l.at + before l.c 0 (drop l.at l.s)
+
+abbrev pub decreases-loop-place : goal.decreases-loop-place
+decreases-loop-place l = length l.s - l.place

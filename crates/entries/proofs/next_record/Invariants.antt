@@ -1,0 +1,15 @@
+use Prim.Native.Nat.{ℕ, min, ◌-◌}
+use native.Mathlib.Nat.{min-le_left}
+use native.Mathlib.Omega.{arith}
+use mathlib.Core.Path.{◌≡◌, refl, sym, ap, ◌∙◌}
+use lib.ListN.{get_or}
+use Rattle.entries.specs.Ahead.{rest_from}
+use Rattle.entries.proofs.Cursors.{count, rest-none, rest-one, rest-pass}
+use borrow.Author.Rules.{rules}
+use Rattle.entries.proofs.next_record.Given as goal
+
+abbrev pub invariant-loop-cursor : goal.invariant-loop-cursor
+invariant-loop-cursor l = (l.n ≡ count l.text l.head) × (rest_from l.text l.head l.cursor ≡ rest_from l.text l.head l.initial.cursor)
+
+abbrev pub decreases-loop-cursor : goal.decreases-loop-cursor
+decreases-loop-cursor l = l.n - l.cursor.profile

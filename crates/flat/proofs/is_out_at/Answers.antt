@@ -1,0 +1,8 @@
+use Rattle.asking.specs.Steps.{out_of}
+use Rattle.flat.specs.Layout.{rule_at}
+use borrow.Author.Rules.{rules}
+use Rattle.flat.proofs.is_out_at.Goals as goal
+
+pub returns : goal.returns
+unfolding out_of rule_at
+returns c = λ s. rw (c.is_out.ensures, c.front_at.ensures)

@@ -1,0 +1,18 @@
+use borrow.Author.Rules.{rules}
+use native.Mathlib.Omega.{arith}
+use mathlib.Core.Path.{◌≡◌, refl, sym, ap, ◌∙◌}
+use Prim.Native.Nat.{ℕ, ◌-◌}
+use mathlib.Core.List.{List}
+use lib.ListN.{length, drop}
+use Rattle.scan.specs.Bytes.{every, span}
+use Rattle.pattern.specs.Items.{items, good_item, pattern_form}
+use Rattle.pattern.specs.Reads.{seen_item}
+use Rattle.form.proofs.Laws.{items-literals, items_more, items-stop, items-all}
+use Rattle.pattern.proofs.Laws.{item_end-more}
+use Rattle.form.proofs.pattern_form.Given as goal
+
+abbrev pub invariant-loop-i : goal.invariant-loop-i
+invariant-loop-i l = every good_item (items 0 (drop l.i l.s)) ≡ every good_item (items 0 (span l.text l.a l.e))
+
+abbrev pub decreases-loop-i : goal.decreases-loop-i
+decreases-loop-i l = length l.s - l.i

@@ -1,0 +1,16 @@
+use borrow.Author.Rules.{rules}
+use mathlib.Core.Path.{◌≡◌, sym, ap, ◌∙◌}
+use mathlib.Core.List.{List}
+use Prim.Native.Nat.{ℕ, ◌-◌, ◌≤◌}
+use native.Mathlib.Omega.{arith}
+use lib.ListN.{length}
+use Rattle.scan.specs.Bytes.{span}
+use Rattle.front.specs.Front.{lead_of}
+use Rattle.front.proofs.Turns.{lead_from, lead-first, lead-next, lead-differs, lead-short, lead-stops, lead-ends}
+use Rattle.front.proofs.lead.Given as goal
+
+abbrev pub invariant-loop-i : goal.invariant-loop-i
+invariant-loop-i l = (l.i ≤ length l.pattern) × (lead_from l.i l.after l.pattern l.path ≡ lead_of l.slash (span l.text l.a l.e) l.path)
+
+abbrev pub decreases-loop-i : goal.decreases-loop-i
+decreases-loop-i l = length l.pattern - l.i

@@ -1,0 +1,23 @@
+use borrow.Author.Rules.{rules}
+use mathlib.Core.Path.{sym, ◌∙◌}
+use mathlib.Core.Bool.{false}
+use Rattle.scan.specs.Bytes.{span}
+use Rattle.pattern.specs.Table.{env}
+use Rattle.front.proofs.Laws.{front-none, lead-none}
+use Rattle.glob.proofs.Laws.{unmatched, unfit}
+use Rattle.glob.proofs.match_pattern.Goals as goal
+
+pub match_told-requires : goal.match_told-requires
+match_told-requires c = (sym c.both_fit.ensures ∙ c.if-both_fit.true, c.lead_far-led.ensures, c.if-led.true)
+
+pub returns-then-led : goal.returns-then-led
+returns-then-led c = c.match_told.ensures
+
+pub returns-else-led : goal.returns-else-led
+returns-else-led c =
+    let vs = env c.args.text.now c.args.vars.now c.args.n in
+    let s = span c.args.text.now c.args.a c.args.e in
+    unmatched c.args.text.now vs s c.args.path.now (front-none vs s c.args.path.now (lead-none false s c.args.path.now _ c.lead_far-led.ensures c.if-led.false))
+
+pub returns-else-both_fit : goal.returns-else-both_fit
+returns-else-both_fit c = unfit c.args.text.now (env c.args.text.now c.args.vars.now c.args.n) (span c.args.text.now c.args.a c.args.e) c.args.path.now (sym c.both_fit.ensures ∙ c.if-both_fit.false)

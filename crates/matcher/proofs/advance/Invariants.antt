@@ -1,0 +1,14 @@
+use borrow.Author.Rules.{rules}
+use Prim.Native.Nat.{◌-◌}
+use native.Mathlib.Omega.{arith}
+use mathlib.Core.Path.{sym, ◌∙◌}
+use lib.ListN.{length, set, length-set}
+use Rattle.pattern.specs.Codes.{decode}
+use Rattle.matcher.proofs.Steps.{Stepping, stepping-first, stepping-turn, stepping-done}
+use Rattle.matcher.proofs.advance.Given as goal
+
+abbrev pub invariant-loop-i : goal.invariant-loop-i
+invariant-loop-i l = Stepping (length l.initial.marks) (decode l.text l.code) l.path (set l.initial.marks 0 l.initial.before) l.marks l.many l.before l.alive l.i
+
+abbrev pub decreases-loop-i : goal.decreases-loop-i
+decreases-loop-i l = length l.path - l.i

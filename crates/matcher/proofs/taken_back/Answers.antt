@@ -1,0 +1,27 @@
+use borrow.Author.Rules.{rules}
+use mathlib.Core.Path.{◌≡◌, sym, ◌∙◌}
+use mathlib.Core.Bool.{true, false}
+use Prim.Native.Nat.{◌+◌, ◌-◌, ◌≤◌}
+use native.Mathlib.Nat.{zero-add}
+use native.Mathlib.Omega.{arith}
+use borrow.Author.Tests.{not-true, not-false}
+use lib.ListN.{length, drop}
+use Rattle.matcher.specs.Walk.{taken}
+use mathlib.Core.List.{reverse}
+use Rattle.matcher.proofs.Back.{back_at, back-short, back_end}
+use Rattle.matcher.proofs.taken_back.Goals as goal
+
+pub loop-i-init : goal.loop-i-init
+loop-i-init c = (omega arith, zero-add _)
+
+pub returns-then-path-i : goal.returns-then-path-i
+returns-then-path-i c = omega (arith, c.loop-i.invariant.1, back-short c.args.text.now c.args.codes.now c.args.path.now c.loop-i.i c.if-path-i.true)
+
+pub returns-then-not-takes_one : goal.returns-then-not-takes_one
+returns-then-not-takes_one c = omega (arith, c.loop-i.invariant.1, back_at c.args.text.now c.args.codes.now c.args.path.now c.loop-i.i (omega arith) (omega arith) false (sym (not-true _ c.if-not-takes_one.true) ∙ c.takes_one.ensures))
+
+pub loop-i-preserved : goal.loop-i-preserved
+loop-i-preserved c = (omega arith, omega (arith, c.loop-i.invariant.1, back_at c.args.text.now c.args.codes.now c.args.path.now c.loop-i.i (omega arith) (omega arith) true (sym (not-false _ c.if-not-takes_one.false) ∙ c.takes_one.ensures)))
+
+pub returns : goal.returns
+returns c = omega (arith, c.loop-i.invariant.1, back_end c.args.text.now c.args.codes.now c.args.path.now c.loop-i.i (omega arith))

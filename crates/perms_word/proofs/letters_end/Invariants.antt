@@ -1,0 +1,15 @@
+use borrow.Author.Rules.{rules}
+use mathlib.Core.Path.{◌≡◌, sym, ◌∙◌}
+use Prim.Native.Nat.{◌+◌, ◌-◌}
+use native.Mathlib.Omega.{arith}
+use lib.ListN.{length, drop}
+use Rattle.scan.specs.Bytes.{run}
+use Rattle.perms_word.specs.Words.{perm_letter}
+use Rattle.scan.proofs.Laws.{run_more, run-stop, run_end}
+use Rattle.perms_word.proofs.letters_end.Given as goal
+
+abbrev pub invariant-loop-i : goal.invariant-loop-i
+invariant-loop-i l = l.i + run perm_letter (drop l.i l.word) ≡ l.at + run perm_letter (drop l.at l.word)
+
+abbrev pub decreases-loop-i : goal.decreases-loop-i
+decreases-loop-i l = length l.word - l.i

@@ -1,0 +1,18 @@
+use borrow.Author.Rules.{rules}
+use mathlib.Core.Path.{◌≡◌, refl, sym, ap, ◌∙◌}
+use Prim.Native.Nat.{◌-◌, ◌≤◌, ◌<◌}
+use mathlib.Core.Bool.{◌||◌}
+use native.Mathlib.Omega.{arith}
+use lib.ListN.{length, drop}
+use lib.Bits.{bit_or}
+use Rattle.perms.specs.Sets.{has, perms}
+use Rattle.perms_word.specs.Words.{carried}
+use Rattle.perms.proofs.Laws.{or-unite, set-lt}
+use Rattle.perms_word.proofs.Words.{carried-more, carried-end}
+use Rattle.perms_word.proofs.set_of.Given as goal
+
+abbrev pub invariant-loop-i : goal.invariant-loop-i
+invariant-loop-i l = (l.i ≤ length l.word) × ((l.set.0 < 256) × (bit_or l.set.0 (carried (drop l.i l.word)) ≡ carried l.word))
+
+abbrev pub decreases-loop-i : goal.decreases-loop-i
+decreases-loop-i l = length l.word - l.i

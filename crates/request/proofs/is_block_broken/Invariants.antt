@@ -1,0 +1,15 @@
+use borrow.Author.Rules.{rules}
+use native.Mathlib.Omega.{arith}
+use Prim.Native.Nat.{◌+◌, ◌-◌, ◌≤◌}
+use mathlib.Core.Path.{◌≡◌, sym, ◌∙◌}
+use mathlib.Core.Bool.{or_assoc}
+use lib.ListN.{drop}
+use lib.Seq.{drop-drop}
+use Rattle.request.proofs.Laws.{broken_in, broken-none, broken-block, broken-add, broken-pair}
+use Rattle.request.proofs.is_block_broken.Given as goal
+
+abbrev pub invariant-loop-i : goal.invariant-loop-i
+invariant-loop-i l = (l.i ≤ 16) × (l.broken ≡ broken_in l.i (drop l.at l.path))
+
+abbrev pub decreases-loop-i : goal.decreases-loop-i
+decreases-loop-i l = 16 - l.i

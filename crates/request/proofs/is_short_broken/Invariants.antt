@@ -1,0 +1,19 @@
+use borrow.Author.Rules.{rules}
+use native.Mathlib.Omega.{arith}
+use Prim.Native.Nat.{◌+◌, ◌-◌}
+use Prim.Native.Char.{code}
+use mathlib.Core.Path.{◌≡◌, sym, ap, ◌∙◌}
+use mathlib.Core.Bool.{Bool, ◌||◌, ◌&&◌, or_assoc, or-false}
+use lib.ListN.{length, get_or, drop}
+use lib.Dec.{eqb}
+use Rattle.scan.specs.Bytes.{holds}
+use Rattle.blanks.specs.Blanks.{nul}
+use Rattle.request.specs.Requests.{doubled}
+use Rattle.request.proofs.Laws.{broken_after, broken-more, broken-end}
+use Rattle.request.proofs.is_short_broken.Given as goal
+
+abbrev pub invariant-loop-i : goal.invariant-loop-i
+invariant-loop-i l = (l.broken || broken_after l.slash (drop l.i l.path)) ≡ (holds nul l.path || doubled l.path)
+
+abbrev pub decreases-loop-i : goal.decreases-loop-i
+decreases-loop-i l = length l.path - l.i

@@ -1,0 +1,10 @@
+use Rattle.scan.specs.Bytes.{bytes}
+use borrow.Author.Rules.{rules}
+use Rattle.rule.proofs.take_deny.Goals as goal
+
+pub returns-then-allow : goal.returns-then-allow
+returns-then-allow c = λ k. record { is = rw c.if-allow.true; token = k }
+
+pub returns : goal.returns
+unfolding bytes
+returns c = λ k. record { is = rw c.if-allow.false (c.take_word.ensures k).is; token = (c.take_word.ensures k).token }

@@ -1,0 +1,6 @@
+use native.Mathlib.Nat.{sub-zero}
+use borrow.Author.Rules.{rules}
+use Rattle.text.proofs.starts_with.Goals as goal
+
+pub returns : goal.returns
+returns c = rw (c.span.ensures, sub-zero) at c.same_bytes.ensures

@@ -1,0 +1,5 @@
+use borrow.Author.Rules.{rules}
+use Rattle.tokens.proofs.is_word.Goals as goal
+
+pub returns : goal.returns
+returns c = rw (c.same_bytes.ensures, c.content-bytes.ensures)

@@ -1,0 +1,15 @@
+use borrow.Author.Rules.{rules}
+use Prim.Native.Nat.{◌+◌, ◌-◌}
+use mathlib.Core.Path.{◌≡◌}
+use native.Mathlib.Omega.{arith}
+use lib.ListN.{length, drop}
+use Rattle.scan.specs.Bytes.{run}
+use Rattle.scan.proofs.Laws.{run_more, run-stop, run_end}
+use Rattle.tokens.specs.Tokens.{in_quotes}
+use Rattle.tokens.proofs.quoted_end.Given as goal
+
+abbrev pub invariant-loop-i : goal.invariant-loop-i
+invariant-loop-i l = l.i + run in_quotes (drop l.i l.text) ≡ l.at + run in_quotes (drop l.at l.text)
+
+abbrev pub decreases-loop-i : goal.decreases-loop-i
+decreases-loop-i l = length l.text - l.i
