@@ -11,6 +11,9 @@ use Rattle.scan.proofs.Laws.{run_more, run-stop, run_end}
 use Rattle.pattern.specs.Pieces.{up_to}
 use Rattle.ends.proofs.up_to.Given as goal
 
+abbrev other : ℕ → ℕ → Bool
+other c b = not (eqb b c)
+
 abbrev pub invariant-loop-i : goal.invariant-loop-i
 invariant-loop-i l = (l.at ≤ l.i) × (l.i + run (other l.c) (drop l.i l.s) ≡ l.at + run (other l.c) (drop l.at l.s))
 

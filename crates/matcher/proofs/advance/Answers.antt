@@ -26,4 +26,6 @@ pub shape_of-marks : goal.shape_of-marks
 shape_of-marks c = c.loop-i.invariant.room ∙ length-set c.args.marks.now 0 c.mark-alive.result
 
 pub returns : goal.returns
-returns c = stepping-done (decode c.args.text.now c.args.code) c.args.path.now c.args.marks.now c.mark-alive.result c.loop-i.invariant (omega arith)
+returns c =
+    let done = stepping-done (decode c.args.text.now c.args.code) c.args.path.now c.args.marks.now c.mark-alive.result c.loop-i.invariant (omega arith) in
+    record { by_index = done.0; value = done.1 }

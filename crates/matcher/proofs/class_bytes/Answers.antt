@@ -19,3 +19,8 @@ pub returns : goal.returns
 unfolding bracketed
 returns c =
     let h : length c.args.text.now ≤ c.args.at = omega arith in rw (drop_of_length-le c.args.text.now h, take-nil)
+
+pub slice_bounds-result-end : goal.slice_bounds-result-end
+slice_bounds-result-end c =
+    let s = c.args.text.now in
+    omega (arith, c.class_end-end.ensures, run-le not_close (drop c.args.at s), length-drop c.args.at s)

@@ -18,10 +18,10 @@ pub returns-then-path-i : goal.returns-then-path-i
 returns-then-path-i c = omega (arith, c.loop-i.invariant.1, back-short c.args.text.now c.args.codes.now c.args.path.now c.loop-i.i c.if-path-i.true)
 
 pub returns-then-not-takes_one : goal.returns-then-not-takes_one
-returns-then-not-takes_one c = omega (arith, c.loop-i.invariant.1, back_at c.args.text.now c.args.codes.now c.args.path.now c.loop-i.i (omega arith) (omega arith) false (sym (not-true _ c.if-not-takes_one.true) ∙ c.takes_one.ensures))
+returns-then-not-takes_one c = omega (arith, c.loop-i.invariant.1, back_at c.args.text.now c.args.codes.now c.args.path.now c.loop-i.i (omega arith) (omega arith) false (sym (c.if-not-takes_one.true) ∙ c.takes_one.ensures))
 
 pub loop-i-preserved : goal.loop-i-preserved
-loop-i-preserved c = (omega arith, omega (arith, c.loop-i.invariant.1, back_at c.args.text.now c.args.codes.now c.args.path.now c.loop-i.i (omega arith) (omega arith) true (sym (not-false _ c.if-not-takes_one.false) ∙ c.takes_one.ensures)))
+loop-i-preserved c = (omega arith, omega (arith, c.loop-i.invariant.1, back_at c.args.text.now c.args.codes.now c.args.path.now c.loop-i.i (omega arith) (omega arith) true (sym (c.if-not-takes_one.false) ∙ c.takes_one.ensures)))
 
 pub returns : goal.returns
 returns c = omega (arith, c.loop-i.invariant.1, back_end c.args.text.now c.args.codes.now c.args.path.now c.loop-i.i (omega arith))

@@ -15,7 +15,7 @@ behind : (s : List ℕ) (k : ℕ) → take (length s - k) (drop k s) ≡ drop k 
 behind s k = take_all (length s - k) (drop k s) (omega (arith, length-drop k s))
 
 pub returns-then-not-repeats : goal.returns-then-not-repeats
-returns-then-not-repeats c = sym (taken-dead c.args.text.now c.args.codes.now c.args.path.now (rw (← c.taken_front-n.ensures) c.if-n-codes.true) (rw (← c.taken_front-n.ensures) (sym (c.repeats.ensures c.args.text.now) ∙ not-true _ c.if-not-repeats.true)))
+returns-then-not-repeats c = sym (taken-dead c.args.text.now c.args.codes.now c.args.path.now (rw (← c.taken_front-n.ensures) c.if-n-codes.true) (rw (← c.taken_front-n.ensures) (sym (c.repeats.ensures c.args.text.now) ∙ c.if-not-repeats.true)))
 
 pub slice_bounds-walk_back-count-then-n-codes : goal.slice_bounds-walk_back-count-then-n-codes
 slice_bounds-walk_back-count-then-n-codes c = omega (arith, c.taken_front-n.ensures, (taken-le c.args.text.now c.args.codes.now c.args.path.now).1)
@@ -27,3 +27,7 @@ returns-then-n-codes c =
 
 pub returns : goal.returns
 returns c = rw c.taken_front-n.ensures (sym (taken-done c.args.text.now c.args.codes.now c.args.path.now (rw c.taken_front-n.ensures at c.if-n-codes.false)))
+
+pub slice_bounds-walk_back-start-then-n-codes : goal.slice_bounds-walk_back-start-then-n-codes
+slice_bounds-walk_back-start-then-n-codes c =
+    omega (arith, c.taken_front-n.ensures, (taken-le c.args.text.now c.args.codes.now c.args.path.now).1)

@@ -14,14 +14,14 @@ pub overflow_sub-m : goal.overflow_sub-m
 overflow_sub-m c = omega (arith, c.taken_back-n.ensures, back-le c.args.text.now c.args.codes.now c.args.path.now)
 
 pub returns-then-not-repeats : goal.returns-then-not-repeats
-returns-then-not-repeats c = sym (back-dead c.args.text.now c.args.codes.now c.args.path.now c.taken_back-n.result c.taken_back-n.ensures (omega arith) (sym (c.repeats.ensures c.args.text.now) ∙ not-true _ c.if-not-repeats.true))
+returns-then-not-repeats c = sym (back-dead c.args.text.now c.args.codes.now c.args.path.now c.taken_back-n.result c.taken_back-n.ensures (omega arith) (sym (c.repeats.ensures c.args.text.now) ∙ c.if-not-repeats.true))
 
 pub slice_bounds-takes_all-end : goal.slice_bounds-takes_all-end
 slice_bounds-takes_all-end c = sym (length-take-le _ _ (omega arith))
 
 pub returns-then-k-eq1 : goal.returns-then-k-eq1
 returns-then-k-eq1 c =
-    c.takes_all.ensures c.args.text.now (sym (c.repeats.ensures c.args.text.now) ∙ not-false _ c.if-not-repeats.false)
+    c.takes_all.ensures c.args.text.now (sym (c.repeats.ensures c.args.text.now) ∙ c.if-not-repeats.false)
     ∙ sym (back-only c.args.text.now c.args.codes.now c.args.path.now c.taken_back-n.result c.taken_back-n.ensures c.if-k-eq1.true)
 
 pub slice_bounds-walk_places-end : goal.slice_bounds-walk_places-end
