@@ -1,5 +1,5 @@
 -- The items of a pattern: its parts, and its alternations.
-use Rattle.std.specs.Prelude.{ℕ, zero, suc, List, [], ◌∷◌, Bool, true, false, not, ◌&&◌, length, take, eqb, leb, ltb}
+use Rattle.std.specs.Prelude.{ℕ, zero, suc, List, [], ◌∷◌, Bool, true, false, ◌&&◌, length, take, eqb, leb, ltb}
 use Prim.Native.Char.{code}
 use Rattle.scan.specs.Bytes.{every, if◌then◌else◌}
 use Rattle.pattern.specs.Pieces.{Part, Is, Use, Bad, extra, part, parts}

@@ -1,11 +1,7 @@
-use borrow.Author.Rules.{rules}
 use Prim.Native.Nat.{◌+◌, ◌-◌}
-use mathlib.Core.Path.{◌≡◌, ap}
-use mathlib.Core.Bool.{not}
-use native.Mathlib.Omega.{arith}
+use mathlib.Core.Path.{◌≡◌}
 use lib.ListN.{length, drop}
 use Rattle.scan.specs.Bytes.{run}
-use Rattle.scan.proofs.Laws.{run_more, run-stop, run_end}
 use Rattle.blanks.specs.Blanks.{in_comment}
 use Rattle.blanks.proofs.comment_end.Given as goal
 

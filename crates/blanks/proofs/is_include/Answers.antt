@@ -1,6 +1,5 @@
 use Rattle.scan.specs.Bytes.{bytes}
 use Rattle.blanks.specs.Blanks.{includes}
-use borrow.Author.Rules.{rules}
 use Rattle.blanks.proofs.is_include.Goals as goal
 
 pub returns : goal.returns

@@ -1,9 +1,6 @@
 use borrow.Author.Rules.{rules}
-use Prim.Native.Nat.{◌+◌, ◌-◌}
-use mathlib.Core.Path.{◌≡◌, sym, ◌∙◌}
+use mathlib.Core.Path.{sym, ◌∙◌}
 use native.Mathlib.Omega.{arith}
-use lib.ListN.{length, drop}
-use Rattle.blanks.specs.Blanks.{skip, standing}
 use Rattle.blanks.proofs.Laws.{skip-blank, skip-other, skip-include, skip-hash, skip-end}
 use Rattle.blanks.proofs.standing_at.Goals as goal
 

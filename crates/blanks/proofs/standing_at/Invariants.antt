@@ -1,10 +1,7 @@
-use borrow.Author.Rules.{rules}
 use Prim.Native.Nat.{◌+◌, ◌-◌}
-use mathlib.Core.Path.{◌≡◌, sym, ◌∙◌}
-use native.Mathlib.Omega.{arith}
+use mathlib.Core.Path.{◌≡◌}
 use lib.ListN.{length, drop}
 use Rattle.blanks.specs.Blanks.{skip, standing}
-use Rattle.blanks.proofs.Laws.{skip-blank, skip-other, skip-include, skip-hash, skip-end}
 use Rattle.blanks.proofs.standing_at.Given as goal
 
 abbrev pub invariant-loop-i : goal.invariant-loop-i

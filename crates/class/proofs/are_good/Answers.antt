@@ -1,10 +1,7 @@
-use borrow.Author.Rules.{rules}
-use mathlib.Core.Path.{◌≡◌, refl, sym, ◌∙◌}
-use Prim.Native.Nat.{◌-◌}
+use mathlib.Core.Path.{refl, sym, ◌∙◌}
 use native.Mathlib.Omega.{arith}
-use lib.ListN.{length, drop}
 use Rattle.scan.specs.Bytes.{every}
-use Rattle.class.specs.Class.{good_range, ranges}
+use Rattle.class.specs.Class.{good_range}
 use Rattle.class.proofs.Laws.{every_more, every-stop, ranges-end, next-beyond}
 use Rattle.class.proofs.are_good.Goals as goal
 

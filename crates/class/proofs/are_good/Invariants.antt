@@ -1,11 +1,8 @@
-use borrow.Author.Rules.{rules}
-use mathlib.Core.Path.{◌≡◌, refl, sym, ◌∙◌}
+use mathlib.Core.Path.{◌≡◌}
 use Prim.Native.Nat.{◌-◌}
-use native.Mathlib.Omega.{arith}
 use lib.ListN.{length, drop}
 use Rattle.scan.specs.Bytes.{every}
 use Rattle.class.specs.Class.{good_range, ranges}
-use Rattle.class.proofs.Laws.{every_more, every-stop, ranges-end, next-beyond}
 use Rattle.class.proofs.are_good.Given as goal
 
 abbrev pub invariant-loop-at : goal.invariant-loop-at

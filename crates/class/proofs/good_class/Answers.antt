@@ -4,7 +4,6 @@ use lib.ListN.{drop}
 use Rattle.scan.specs.Bytes.{every}
 use Rattle.class.specs.Class.{good_range, ranges}
 use Rattle.class.proofs.Laws.{good-some, good_none}
-use borrow.Author.Rules.{rules}
 use Rattle.class.proofs.good_class.Goals as goal
 
 pub returns-then-from-class : goal.returns-then-from-class

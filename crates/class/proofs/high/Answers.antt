@@ -1,7 +1,6 @@
 use mathlib.Core.Path.{sym, ◌∙◌}
 use Rattle.class.specs.Places.{high_at}
 use Rattle.class.proofs.Laws.{pair-room}
-use borrow.Author.Rules.{rules}
 use Rattle.class.proofs.high.Goals as goal
 
 pub bounds-class-at : goal.bounds-class-at

@@ -1,6 +1,5 @@
 use Rattle.class.specs.Class.{in_class}
 use Rattle.class.proofs.Laws.{listed-from}
-use borrow.Author.Rules.{rules}
 use Rattle.class.proofs.in_class.Goals as goal
 
 pub returns-then-negated : goal.returns-then-negated

@@ -1,4 +1,3 @@
-use borrow.Author.Rules.{rules}
 use Rattle.class.proofs.is_good.Goals as goal
 
 pub returns : goal.returns

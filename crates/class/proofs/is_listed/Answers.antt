@@ -1,10 +1,7 @@
-use borrow.Author.Rules.{rules}
-use mathlib.Core.Path.{◌≡◌, refl, sym, ◌∙◌}
-use Prim.Native.Nat.{◌-◌}
+use mathlib.Core.Path.{refl, sym, ◌∙◌}
 use native.Mathlib.Omega.{arith}
-use lib.ListN.{length, drop}
 use Rattle.scan.specs.Bytes.{between, some}
-use Rattle.class.specs.Class.{Range, ranges}
+use Rattle.class.specs.Class.{Range}
 use Rattle.class.proofs.Laws.{some_more, some-here, ranges-end, next-beyond}
 use Rattle.class.proofs.is_listed.Goals as goal
 

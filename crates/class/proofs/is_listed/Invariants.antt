@@ -1,11 +1,8 @@
-use borrow.Author.Rules.{rules}
-use mathlib.Core.Path.{◌≡◌, refl, sym, ◌∙◌}
+use mathlib.Core.Path.{◌≡◌}
 use Prim.Native.Nat.{◌-◌}
-use native.Mathlib.Omega.{arith}
 use lib.ListN.{length, drop}
 use Rattle.scan.specs.Bytes.{between, some}
 use Rattle.class.specs.Class.{Range, ranges}
-use Rattle.class.proofs.Laws.{some_more, some-here, ranges-end, next-beyond}
 use Rattle.class.proofs.is_listed.Given as goal
 
 abbrev pub invariant-loop-at : goal.invariant-loop-at

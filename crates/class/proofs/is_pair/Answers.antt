@@ -1,7 +1,6 @@
 use mathlib.Core.Path.{sym}
 use native.Mathlib.Omega.{arith}
 use Rattle.class.proofs.Laws.{pair-long, pair-short}
-use borrow.Author.Rules.{rules}
 use Rattle.class.proofs.is_pair.Goals as goal
 
 pub returns-then-class-at-gt2 : goal.returns-then-class-at-gt2

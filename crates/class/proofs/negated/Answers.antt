@@ -1,7 +1,6 @@
 use mathlib.Core.Path.{sym}
 use native.Mathlib.Omega.{arith}
 use Rattle.class.proofs.Laws.{begins-with, begins-none}
-use borrow.Author.Rules.{rules}
 use Rattle.class.proofs.negated.Goals as goal
 
 pub returns-then-class-gt0 : goal.returns-then-class-gt0

@@ -2,7 +2,6 @@ use mathlib.Core.Path.{sym, ◌∙◌}
 use native.Mathlib.Omega.{arith}
 use Rattle.class.specs.Places.{next_at}
 use Rattle.class.proofs.Laws.{pair-room}
-use borrow.Author.Rules.{rules}
 use Rattle.class.proofs.next.Goals as goal
 
 pub overflow_add-result : goal.overflow_add-result

@@ -1,5 +1,4 @@
 use Rattle.class.specs.Places.{start_of}
-use borrow.Author.Rules.{rules}
 use Rattle.class.proofs.start.Goals as goal
 
 pub returns-then-negated : goal.returns-then-negated

@@ -1,6 +1,5 @@
 use mathlib.Core.Path.{◌∙◌}
 use Rattle.modes.proofs.Table.{mode_at, kind_at, fallback-at, scrub-at, mode-at, kind-lt, fallback-lt}
-use borrow.Author.Rules.{rules}
 use Rattle.modes.proofs.mode_at.Goals as goal
 
 pub kind_of-kind-requires : goal.kind_of-kind-requires

@@ -1,9 +1,7 @@
-use borrow.Author.Rules.{rules}
 use mathlib.Core.Path.{◌≡◌, refl, sym, ap, ◌∙◌}
-use Prim.Native.Nat.{suc, ◌+◌, ◌-◌, ◌≤◌}
+use Prim.Native.Nat.{suc, ◌+◌}
 use native.Mathlib.Omega.{arith}
-use lib.ListN.{drop}
-use Rattle.modes.specs.Modes.{modes, same_mode, number_in}
+use Rattle.modes.specs.Modes.{modes, same_mode}
 use Rattle.modes.proofs.Table.{number-here, number-later, number-end}
 use Rattle.modes.proofs.mode_number.Goals as goal
 

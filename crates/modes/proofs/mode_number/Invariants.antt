@@ -1,10 +1,7 @@
-use borrow.Author.Rules.{rules}
-use mathlib.Core.Path.{◌≡◌, refl, sym, ap, ◌∙◌}
-use Prim.Native.Nat.{suc, ◌+◌, ◌-◌, ◌≤◌}
-use native.Mathlib.Omega.{arith}
+use mathlib.Core.Path.{◌≡◌}
+use Prim.Native.Nat.{◌+◌, ◌-◌, ◌≤◌}
 use lib.ListN.{drop}
-use Rattle.modes.specs.Modes.{modes, same_mode, number_in}
-use Rattle.modes.proofs.Table.{number-here, number-later, number-end}
+use Rattle.modes.specs.Modes.{modes, number_in}
 use Rattle.modes.proofs.mode_number.Given as goal
 
 abbrev pub invariant-loop-i : goal.invariant-loop-i

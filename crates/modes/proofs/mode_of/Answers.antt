@@ -1,9 +1,6 @@
-use borrow.Author.Rules.{rules}
-use mathlib.Core.Path.{◌≡◌, refl, sym, ◌∙◌}
-use Prim.Native.Nat.{◌-◌, ◌≤◌}
+use mathlib.Core.Path.{refl, sym, ◌∙◌}
 use native.Mathlib.Omega.{arith}
-use lib.ListN.{drop}
-use Rattle.modes.specs.Modes.{modes, mode_in}
+use Rattle.modes.specs.Modes.{modes}
 use Rattle.modes.proofs.Table.{mode-here, mode-later, mode-end}
 use Rattle.modes.proofs.mode_of.Goals as goal
 

@@ -1,10 +1,7 @@
-use borrow.Author.Rules.{rules}
-use mathlib.Core.Path.{◌≡◌, refl, sym, ◌∙◌}
+use mathlib.Core.Path.{◌≡◌}
 use Prim.Native.Nat.{◌-◌, ◌≤◌}
-use native.Mathlib.Omega.{arith}
 use lib.ListN.{drop}
 use Rattle.modes.specs.Modes.{modes, mode_in}
-use Rattle.modes.proofs.Table.{mode-here, mode-later, mode-end}
 use Rattle.modes.proofs.mode_of.Given as goal
 
 abbrev pub invariant-loop-i : goal.invariant-loop-i

@@ -1,5 +1,4 @@
 use Rattle.modes.specs.Modes.{same_mode}
-use borrow.Author.Rules.{rules}
 use Rattle.modes.proofs.same_mode.Goals as goal
 
 pub returns : goal.returns

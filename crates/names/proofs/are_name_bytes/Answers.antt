@@ -1,9 +1,5 @@
-use borrow.Author.Rules.{rules}
 use native.Mathlib.Omega.{arith}
-use Prim.Native.Nat.{◌-◌}
-use mathlib.Core.Path.{◌≡◌, refl, sym, ◌∙◌}
-use lib.ListN.{length, drop}
-use Rattle.scan.specs.Bytes.{every}
+use mathlib.Core.Path.{refl, sym, ◌∙◌}
 use Rattle.names.specs.Names.{name_byte}
 use Rattle.names.proofs.Laws.{every-end, every_more, every-stop}
 use Rattle.names.proofs.are_name_bytes.Goals as goal

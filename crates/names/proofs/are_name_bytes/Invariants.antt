@@ -1,11 +1,8 @@
-use borrow.Author.Rules.{rules}
-use native.Mathlib.Omega.{arith}
 use Prim.Native.Nat.{◌-◌}
-use mathlib.Core.Path.{◌≡◌, refl, sym, ◌∙◌}
+use mathlib.Core.Path.{◌≡◌}
 use lib.ListN.{length, drop}
 use Rattle.scan.specs.Bytes.{every}
 use Rattle.names.specs.Names.{name_byte}
-use Rattle.names.proofs.Laws.{every-end, every_more, every-stop}
 use Rattle.names.proofs.are_name_bytes.Given as goal
 
 abbrev pub invariant-loop-i : goal.invariant-loop-i

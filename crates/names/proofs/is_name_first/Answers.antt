@@ -1,4 +1,3 @@
-use borrow.Author.Rules.{rules}
 use Rattle.names.proofs.is_name_first.Goals as goal
 
 pub returns : goal.returns

@@ -1,5 +1,4 @@
 use Rattle.names.specs.Names.{name_form}
-use borrow.Author.Rules.{rules}
 use Rattle.names.proofs.name_form.Goals as goal
 
 pub returns : goal.returns

@@ -1,5 +1,4 @@
 use Rattle.names.specs.Names.{variable_fault}
-use borrow.Author.Rules.{rules}
 use Rattle.names.proofs.variable_fault.Goals as goal
 
 pub returns-then-holds_byte : goal.returns-then-holds_byte

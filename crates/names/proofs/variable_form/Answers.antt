@@ -1,6 +1,5 @@
 use mathlib.Core.Path.{sym}
 use Rattle.names.proofs.Laws.{form-empty, form-rest}
-use borrow.Author.Rules.{rules}
 use Rattle.names.proofs.variable_form.Goals as goal
 
 pub returns-then-s-eq0 : goal.returns-then-s-eq0

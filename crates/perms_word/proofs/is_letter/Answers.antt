@@ -1,6 +1,5 @@
 use Rattle.perms_word.specs.Words.{letters}
 use Rattle.scan.specs.Bytes.{bytes}
-use borrow.Author.Rules.{rules}
 use Rattle.perms_word.proofs.is_letter.Goals as goal
 
 pub returns : goal.returns

@@ -1,11 +1,8 @@
-use borrow.Author.Rules.{rules}
-use mathlib.Core.Path.{◌≡◌, sym, ◌∙◌}
+use mathlib.Core.Path.{◌≡◌}
 use Prim.Native.Nat.{◌+◌, ◌-◌}
-use native.Mathlib.Omega.{arith}
 use lib.ListN.{length, drop}
 use Rattle.scan.specs.Bytes.{run}
 use Rattle.perms_word.specs.Words.{perm_letter}
-use Rattle.scan.proofs.Laws.{run_more, run-stop, run_end}
 use Rattle.perms_word.proofs.letters_end.Given as goal
 
 abbrev pub invariant-loop-i : goal.invariant-loop-i

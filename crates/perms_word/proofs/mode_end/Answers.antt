@@ -1,10 +1,6 @@
-use borrow.Author.Rules.{rules}
-use mathlib.Core.Path.{◌≡◌, sym, ap, ◌∙◌}
-use Prim.Native.Nat.{◌+◌, ◌-◌}
+use mathlib.Core.Path.{sym, ap, ◌∙◌}
 use native.Mathlib.Omega.{arith}
-use lib.ListN.{length, drop}
 use mathlib.Core.Bool.{not}
-use Rattle.scan.specs.Bytes.{run}
 use Rattle.perms_word.specs.Words.{other}
 use Rattle.scan.proofs.Laws.{run_more, run-stop, run_end}
 use Rattle.perms_word.proofs.mode_end.Goals as goal

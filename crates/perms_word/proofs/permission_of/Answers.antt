@@ -3,7 +3,6 @@ use Rattle.perms.specs.Sets.{has, perms}
 use Rattle.perms_word.specs.Words.{carried, letters}
 use Rattle.scan.specs.Bytes.{some, bytes}
 use Rattle.perms_word.proofs.Words.{carried_other}
-use borrow.Author.Rules.{rules}
 use Rattle.perms_word.proofs.permission_of.Goals as goal
 
 pub returns-in-114 : goal.returns-in-114

@@ -1,6 +1,5 @@
 use mathlib.Core.Path.{sym, ◌∙◌}
 use Rattle.perms_word.proofs.Words.{word-empty, word-tail, word-both, word-told}
-use borrow.Author.Rules.{rules}
 use Rattle.perms_word.proofs.read_word.Goals as goal
 
 pub returns-then-word-eq0 : goal.returns-then-word-eq0

@@ -1,14 +1,8 @@
-use borrow.Author.Rules.{rules}
-use mathlib.Core.Path.{◌≡◌, refl, sym, ap, ◌∙◌}
+use mathlib.Core.Path.{◌≡◌}
 use Prim.Native.Nat.{◌-◌, ◌≤◌, ◌<◌}
-use mathlib.Core.Bool.{◌||◌}
-use native.Mathlib.Omega.{arith}
 use lib.ListN.{length, drop}
 use lib.Bits.{bit_or}
-use Rattle.perms.specs.Sets.{has, perms}
 use Rattle.perms_word.specs.Words.{carried}
-use Rattle.perms.proofs.Laws.{or-unite, set-lt}
-use Rattle.perms_word.proofs.Words.{carried-more, carried-end}
 use Rattle.perms_word.proofs.set_of.Given as goal
 
 abbrev pub invariant-loop-i : goal.invariant-loop-i

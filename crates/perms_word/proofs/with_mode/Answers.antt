@@ -2,7 +2,6 @@ use mathlib.Core.Path.{sym, ap, ◌∙◌}
 use Rattle.scan.specs.Bytes.{bytes}
 use Rattle.perms_word.specs.Words.{named}
 use Rattle.perms_word.proofs.Words.{mode-none, mode-bare, mode-denied, mode-allowed}
-use borrow.Author.Rules.{rules}
 use Rattle.perms_word.proofs.with_mode.Goals as goal
 
 pub returns-then-mode-eq0 : goal.returns-then-mode-eq0

@@ -1,4 +1,3 @@
-use borrow.Author.Rules.{rules}
 use Rattle.perms_word.proofs.with_transition.Goals as goal
 
 pub returns-in-ByMode : goal.returns-in-ByMode

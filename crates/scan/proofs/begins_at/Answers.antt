@@ -1,6 +1,5 @@
 use mathlib.Core.Path.{sym}
 use Rattle.scan.proofs.Laws.{begins-at, begins-end}
-use borrow.Author.Rules.{rules}
 use Rattle.scan.proofs.begins_at.Goals as goal
 
 pub returns-then-at-s : goal.returns-then-at-s

@@ -1,9 +1,5 @@
-use borrow.Author.Rules.{rules}
-use mathlib.Core.Path.{sym, ◌∙◌, ◌≡◌}
-use Prim.Native.Nat.{◌-◌}
+use mathlib.Core.Path.{sym, ◌∙◌}
 use native.Mathlib.Omega.{arith}
-use lib.ListN.{length, drop}
-use Rattle.scan.specs.Bytes.{holds}
 use Rattle.scan.proofs.Laws.{holds-here, holds_later, holds-end}
 use Rattle.scan.proofs.holds_byte.Goals as goal
 

@@ -1,10 +1,7 @@
-use borrow.Author.Rules.{rules}
-use mathlib.Core.Path.{sym, ◌∙◌, ◌≡◌}
+use mathlib.Core.Path.{◌≡◌}
 use Prim.Native.Nat.{◌-◌}
-use native.Mathlib.Omega.{arith}
 use lib.ListN.{length, drop}
 use Rattle.scan.specs.Bytes.{holds}
-use Rattle.scan.proofs.Laws.{holds-here, holds_later, holds-end}
 use Rattle.scan.proofs.holds_byte.Given as goal
 
 abbrev pub invariant-loop-i : goal.invariant-loop-i

@@ -1,9 +1,5 @@
-use mathlib.Core.Path.{sym, ◌∙◌, ◌≡◌}
-use borrow.Author.Rules.{rules}
-use Prim.Native.Nat.{◌-◌, ◌≤◌}
+use mathlib.Core.Path.{sym, ◌∙◌}
 use native.Mathlib.Omega.{arith}
-use lib.ListN.{length, drop}
-use Rattle.scan.specs.Bytes.{same}
 use Rattle.scan.proofs.Laws.{same_more, same_stop, same_end, same_length}
 use Rattle.scan.proofs.same_bytes.Goals as goal
 

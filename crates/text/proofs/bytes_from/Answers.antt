@@ -4,7 +4,6 @@ use Prim.Native.Nat.{◌-◌}
 use lib.ListN.{length, drop, drop_of_length-le, length-drop}
 use lib.Seq.{take_all}
 use native.Mathlib.Nat.{sub_self}
-use borrow.Author.Rules.{rules}
 use Rattle.text.proofs.bytes_from.Goals as goal
 
 pub returns-then-n-s : goal.returns-then-n-s

@@ -1,10 +1,8 @@
 use native.Mathlib.Nat.{sub-zero}
 use borrow.Author.Rules.{rules}
-use Prim.Native.Nat.{◌+◌, ◌-◌, ◌≤◌}
 use mathlib.Core.Path.{◌≡◌, ap}
 use native.Mathlib.Omega.{arith}
 use lib.ListN.{length, take}
-use Rattle.text.specs.Reading.{line_of, column_of}
 use Rattle.text.proofs.Laws.{after-feed, after-other, at-end, at-start}
 use Rattle.text.proofs.refusal_at.Goals as goal
 use Rattle.text.proofs.refusal_at.Goals.{then-before-i-eq10, else-before-i-eq10}
@@ -15,9 +13,9 @@ loop-i-init c = omega (arith, (at-start c.span-before.result.now).0, (at-start c
 pub loop-i-preserved : goal.loop-i-preserved
 loop-i-preserved c =
     elim c.if-before-i-eq10.branch [
-      then-before-i-eq10 w ↦ let e = after-feed c.span-before.result.now c.loop-i.i (search rules) w.if-before-i-eq10.true in omega (arith, e.0, e.1)
+      | then-before-i-eq10 w ↦ let e = after-feed c.span-before.result.now c.loop-i.i (search rules) w.if-before-i-eq10.true in omega (arith, e.0, e.1)
       | else-before-i-eq10 w ↦ let e = after-other c.span-before.result.now c.loop-i.i (search rules) w.if-before-i-eq10.false in omega (arith, e.0, e.1)
-      ]
+    ]
 
 pub returns : goal.returns
 returns c =

@@ -1,11 +1,7 @@
-use native.Mathlib.Nat.{sub-zero}
-use borrow.Author.Rules.{rules}
 use Prim.Native.Nat.{◌+◌, ◌-◌, ◌≤◌}
-use mathlib.Core.Path.{◌≡◌, ap}
-use native.Mathlib.Omega.{arith}
-use lib.ListN.{length, take}
+use mathlib.Core.Path.{◌≡◌}
+use lib.ListN.{length}
 use Rattle.text.specs.Reading.{line_of, column_of}
-use Rattle.text.proofs.Laws.{after-feed, after-other, at-end, at-start}
 use Rattle.text.proofs.refusal_at.Given as goal
 
 abbrev pub invariant-loop-i : goal.invariant-loop-i

@@ -1,4 +1,3 @@
-use borrow.Author.Rules.{rules}
 use Rattle.modes.proofs.Execute.number.Goals as goal
 
 pub returns-in-ByMode : goal.returns-in-ByMode

@@ -1,4 +1,3 @@
-use borrow.Author.Rules.{rules}
 use mathlib.Core.Path.{refl}
 use Rattle.scan.specs.Bytes.{bytes}
 use Rattle.modes.proofs.Execute.word.Goals as goal
