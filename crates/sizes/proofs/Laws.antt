@@ -10,7 +10,7 @@ use native.Mathlib.Nat.{mul-zero, zero-mul, min-eq_left, min-eq_right, mul-le-mu
 use native.Mathlib.Omega.{arith}
 use Rattle.scan.specs.Bytes.{every, some}
 use Rattle.pattern.specs.Pieces.{Piece}
-use Rattle.pattern.specs.Expansions.{Variable, across, longest, is_slash, begins_slash, expansions, count}
+use Rattle.pattern.specs.Expansions.{Variable, across, longest, is_slash, begins_slash, expansions}
 use Rattle.pattern.specs.Codes.{decode}
 use Rattle.pattern.specs.Faults.{too_many, rooted}
 use Rattle.pattern.proofs.Codes.{decode-byte, decode-place}

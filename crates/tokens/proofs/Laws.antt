@@ -12,7 +12,6 @@ use native.Mathlib.Nat.{add-sub_cancel_left}
 use native.Mathlib.Omega.{arith}
 use borrow.Author.Tests.{eq-eqb, ne_eqb}
 use types.Run.{OneOf}
-use denote.Enum.Declared
 use denote.Enum.Declared.{tag_of}
 use Rattle.scan.specs.Bytes.{begins, run, span, if◌then◌else◌}
 use Rattle.text.specs.Places.{refused_by}

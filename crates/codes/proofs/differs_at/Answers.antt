@@ -1,4 +1,3 @@
-use borrow.Author.Rules.{rules}
 use Prim.Native.Nat.{suc}
 use Prim.Native.Char.{code}
 use native.Mathlib.Omega.{arith}

@@ -1,14 +1,9 @@
-use borrow.Author.Rules.{rules}
-use mathlib.Core.Path.{◌≡◌, refl, sym, ap, ◌∙◌}
-use mathlib.Core.Bool.{true, false}
+use mathlib.Core.Path.{◌≡◌}
 use mathlib.Core.List.{List, map}
-use Prim.Native.Nat.{ℕ, ◌+◌, ◌-◌, ◌≤◌, max}
-use native.Mathlib.Omega.{arith}
-use lib.ListN.{length, get_or, take, drop}
+use Prim.Native.Nat.{ℕ, ◌-◌, ◌≤◌, max}
+use lib.ListN.{length, take, drop}
 use Rattle.pattern.specs.Codes.{decode}
-use Rattle.codes.specs.declared.Held.{Held}
-use Rattle.codes.specs.Held.{held_from, held_wild, held_pieces}
-use Rattle.codes.proofs.Laws.{take-least, held-still, held-literal, held-wild, held-differs, held-goes, held-room, held-code, held-end, held-over}
+use Rattle.codes.specs.Held.{held_from, held_pieces}
 use Rattle.codes.proofs.hold.Given as goal
 
 abbrev pub invariant-loop-i : goal.invariant-loop-i

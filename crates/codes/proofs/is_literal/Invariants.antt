@@ -1,11 +1,8 @@
-use borrow.Author.Rules.{rules}
-use mathlib.Core.Path.{◌≡◌, refl, sym, ◌∙◌}
+use mathlib.Core.Path.{◌≡◌}
 use Prim.Native.Nat.{◌-◌, ◌≤◌}
-use native.Mathlib.Omega.{arith}
-use lib.ListN.{length, take, drop}
-use borrow.Author.Tests.{lt-ltb, le-ltb}
+use lib.ListN.{take, drop}
 use Rattle.scan.specs.Bytes.{every}
-use Rattle.codes.proofs.Laws.{literal_code, literal-least, every-next, every-break, every-done}
+use Rattle.codes.proofs.Laws.{literal_code}
 use Rattle.codes.proofs.is_literal.Given as goal
 
 abbrev pub invariant-loop-seen : goal.invariant-loop-seen

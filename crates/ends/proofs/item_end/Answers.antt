@@ -1,6 +1,5 @@
 use mathlib.Core.Path.{sym, ◌∙◌}
 use Rattle.pattern.proofs.Laws.{item_end-end, item_end-single, item_end-among, item_end-open}
-use borrow.Author.Rules.{rules}
 use Rattle.ends.proofs.item_end.Goals as goal
 
 pub returns-then-s-at : goal.returns-then-s-at

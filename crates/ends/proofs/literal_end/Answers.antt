@@ -1,9 +1,6 @@
 use borrow.Author.Rules.{rules}
 use native.Mathlib.Omega.{arith}
-use mathlib.Core.Path.{◌≡◌, sym, ◌∙◌}
-use Prim.Native.Nat.{◌+◌, ◌-◌}
-use lib.ListN.{length, drop}
-use Rattle.scan.specs.Bytes.{run}
+use mathlib.Core.Path.{sym, ◌∙◌}
 use Rattle.scan.proofs.Laws.{run_more, run-stop, run_end}
 use Rattle.pattern.specs.Literals.{ordinary}
 use Rattle.ends.proofs.literal_end.Goals as goal

@@ -1,10 +1,7 @@
-use borrow.Author.Rules.{rules}
-use native.Mathlib.Omega.{arith}
-use mathlib.Core.Path.{◌≡◌, sym, ◌∙◌}
+use mathlib.Core.Path.{◌≡◌}
 use Prim.Native.Nat.{◌+◌, ◌-◌}
 use lib.ListN.{length, drop}
 use Rattle.scan.specs.Bytes.{run}
-use Rattle.scan.proofs.Laws.{run_more, run-stop, run_end}
 use Rattle.pattern.specs.Literals.{ordinary}
 use Rattle.ends.proofs.literal_end.Given as goal
 

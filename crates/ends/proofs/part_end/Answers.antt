@@ -3,7 +3,6 @@ use mathlib.Core.Path.{sym}
 use Prim.Native.Nat.{◌+◌}
 use lib.ListN.{get_or, drop, length-drop}
 use Rattle.pattern.proofs.Laws.{extra-le, part_end-in, part_end-end}
-use borrow.Author.Rules.{rules}
 use Rattle.ends.proofs.part_end.Goals as goal
 
 pub overflow_add-result-then-at-s : goal.overflow_add-result-then-at-s

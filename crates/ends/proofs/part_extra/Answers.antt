@@ -2,7 +2,6 @@ use lib.ListN.{drop_of_length-le}
 use lib.Seq.{drop-cons}
 use borrow.Author.Tests.{eq-eqb, ne_eqb}
 use Rattle.pattern.proofs.Laws.{extra-by}
-use borrow.Author.Rules.{rules}
 use Rattle.ends.proofs.part_extra.Goals as goal
 
 pub returns-then-at-s : goal.returns-then-at-s

@@ -1,9 +1,5 @@
-use borrow.Author.Rules.{rules}
 use native.Mathlib.Omega.{arith}
-use mathlib.Core.Path.{◌≡◌, ◌∙◌}
-use Prim.Native.Nat.{◌+◌, ◌-◌}
-use lib.ListN.{length, drop}
-use Rattle.pattern.specs.Items.{before}
+use mathlib.Core.Path.{◌∙◌}
 use Rattle.pattern.proofs.Laws.{before_more, before-stop, before-end, part_end-more}
 use Rattle.ends.proofs.seek.Goals as goal
 

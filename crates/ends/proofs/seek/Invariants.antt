@@ -1,10 +1,7 @@
-use borrow.Author.Rules.{rules}
-use native.Mathlib.Omega.{arith}
-use mathlib.Core.Path.{◌≡◌, ◌∙◌}
+use mathlib.Core.Path.{◌≡◌}
 use Prim.Native.Nat.{◌+◌, ◌-◌}
 use lib.ListN.{length, drop}
 use Rattle.pattern.specs.Items.{before}
-use Rattle.pattern.proofs.Laws.{before_more, before-stop, before-end, part_end-more}
 use Rattle.ends.proofs.seek.Given as goal
 
 abbrev pub invariant-loop-place : goal.invariant-loop-place

@@ -1,7 +1,6 @@
 use Rattle.scan.specs.Bytes.{bytes}
 use Rattle.keywords.specs.Keywords.{not_taken}
 use Rattle.keywords.proofs.Laws.{barred-by}
-use borrow.Author.Rules.{rules}
 use Rattle.keywords.proofs.is_barred.Goals as goal
 
 pub returns : goal.returns

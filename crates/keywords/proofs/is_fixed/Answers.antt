@@ -1,6 +1,5 @@
 use Rattle.scan.specs.Bytes.{bytes, some}
 use Rattle.keywords.specs.Keywords.{cut}
-use borrow.Author.Rules.{rules}
 use Rattle.keywords.proofs.is_fixed.Goals as goal
 
 pub returns : goal.returns

@@ -4,7 +4,6 @@ use Rattle.tokens.specs.Places.{seen}
 use Rattle.tokens.proofs.Laws.{not_found}
 use Rattle.keywords.specs.Keywords.{barred, word_is}
 use Rattle.keywords.proofs.Laws.{none-at, same-token}
-use borrow.Author.Rules.{rules}
 use Rattle.keywords.proofs.is_not_taken.Goals as goal
 
 pub returns-then-not-may_begin : goal.returns-then-not-may_begin

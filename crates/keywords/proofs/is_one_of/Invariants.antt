@@ -1,14 +1,9 @@
-use borrow.Author.Rules.{rules}
-use Prim.Native.Nat.{◌-◌, ◌≤◌, ◌<◌}
-use mathlib.Core.Path.{◌≡◌, refl, sym, ◌∙◌}
+use Prim.Native.Nat.{◌-◌, ◌≤◌}
+use mathlib.Core.Path.{◌≡◌}
 use mathlib.Core.List.{[]}
-use mathlib.Core.Logic.{⊎_elim}
-use native.Mathlib.Nat.{sub_self}
-use native.Mathlib.Omega.{arith}
 use lib.ListN.{length, drop}
 use Rattle.scan.specs.Bytes.{same, some, span}
 use Rattle.keywords.specs.Keywords.{cut}
-use Rattle.keywords.proofs.Laws.{cut-byte, cut_word, cut-end}
 use Rattle.keywords.proofs.is_one_of.Given as goal
 
 abbrev pub invariant-loop-i : goal.invariant-loop-i

@@ -1,6 +1,5 @@
 use lib.ListN.{drop_of_length-le}
 use lib.Seq.{drop-cons}
-use borrow.Author.Rules.{rules}
 use Rattle.keywords.proofs.may_begin.Goals as goal
 
 pub returns-then-at-text : goal.returns-then-at-text

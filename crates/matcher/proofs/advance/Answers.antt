@@ -1,10 +1,9 @@
 use borrow.Author.Rules.{rules}
-use Prim.Native.Nat.{◌-◌}
 use native.Mathlib.Omega.{arith}
 use mathlib.Core.Path.{sym, ◌∙◌}
-use lib.ListN.{length, set, length-set}
+use lib.ListN.{length-set}
 use Rattle.pattern.specs.Codes.{decode}
-use Rattle.matcher.proofs.Steps.{Stepping, stepping-first, stepping-turn, stepping-done}
+use Rattle.matcher.proofs.Steps.{stepping-first, stepping-turn, stepping-done}
 use Rattle.matcher.proofs.advance.Goals as goal
 
 pub loop-i-init : goal.loop-i-init

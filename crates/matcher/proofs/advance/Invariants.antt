@@ -1,10 +1,7 @@
-use borrow.Author.Rules.{rules}
 use Prim.Native.Nat.{◌-◌}
-use native.Mathlib.Omega.{arith}
-use mathlib.Core.Path.{sym, ◌∙◌}
-use lib.ListN.{length, set, length-set}
+use lib.ListN.{length, set}
 use Rattle.pattern.specs.Codes.{decode}
-use Rattle.matcher.proofs.Steps.{Stepping, stepping-first, stepping-turn, stepping-done}
+use Rattle.matcher.proofs.Steps.{Stepping}
 use Rattle.matcher.proofs.advance.Given as goal
 
 abbrev pub invariant-loop-i : goal.invariant-loop-i

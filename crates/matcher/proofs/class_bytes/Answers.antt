@@ -7,7 +7,6 @@ use lib.Seq.{take-nil}
 use Rattle.scan.specs.Bytes.{run}
 use Rattle.pattern.specs.Codes.{bracketed, not_close}
 use Rattle.scan.proofs.Laws.{run-le}
-use borrow.Author.Rules.{rules}
 use Rattle.matcher.proofs.class_bytes.Goals as goal
 
 pub returns-then-at-text : goal.returns-then-at-text

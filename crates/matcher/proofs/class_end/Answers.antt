@@ -1,11 +1,6 @@
-use borrow.Author.Rules.{rules}
-use mathlib.Core.Path.{◌≡◌}
-use Prim.Native.Nat.{◌+◌, ◌-◌}
 use native.Mathlib.Omega.{arith}
-use lib.ListN.{length, drop}
 use borrow.Author.Tests.{eq-eqb, ne_eqb}
 use Rattle.scan.proofs.Laws.{run_more, run-stop, run_end}
-use Rattle.scan.specs.Bytes.{run}
 use Rattle.pattern.specs.Codes.{not_close}
 use Rattle.matcher.proofs.class_end.Goals as goal
 

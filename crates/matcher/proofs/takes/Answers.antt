@@ -6,7 +6,6 @@ use Rattle.class.specs.Class.{in_class}
 use Rattle.pattern.specs.Codes.{bracketed}
 use Rattle.pattern.proofs.Codes.{decode-byte, decode-class}
 use Rattle.matcher.proofs.Codes.{takes-stars, takes-other}
-use borrow.Author.Rules.{rules}
 use Rattle.matcher.proofs.takes.Goals as goal
 
 pub returns-then-code-lt-ONE : goal.returns-then-code-lt-ONE

@@ -1,4 +1,3 @@
-use borrow.Author.Rules.{rules}
 use Rattle.matcher.proofs.Codes.{accepts-star}
 use Rattle.matcher.proofs.takes_all.Goals as goal
 

@@ -1,4 +1,3 @@
-use borrow.Author.Rules.{rules}
 use Rattle.matcher.proofs.takes_one.Goals as goal
 
 pub returns : goal.returns

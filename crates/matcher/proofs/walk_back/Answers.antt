@@ -1,7 +1,5 @@
-use borrow.Author.Rules.{rules}
 use mathlib.Core.Path.{sym, ◌∙◌}
 use native.Mathlib.Omega.{arith}
-use borrow.Author.Tests.{not-true, not-false}
 use lib.ListN.{length-take}
 use lib.Seq.{length-take-le}
 use Rattle.matcher.proofs.Back.{back-le, back-left, back-dead, back-only}

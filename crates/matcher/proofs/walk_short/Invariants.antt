@@ -1,15 +1,10 @@
-use borrow.Author.Rules.{rules}
-use mathlib.Core.Path.{◌≡◌, ◌∙◌}
+use mathlib.Core.Path.{◌≡◌}
 use mathlib.Core.Bool.{false}
 use mathlib.Core.List.{map}
 use Prim.Native.Nat.{ℕ, ◌-◌, ◌≤◌}
-use native.Mathlib.Omega.{arith}
 use lib.ListN.{length, get_or, take}
-use native.Mathlib.Nat.{le_refl}
-use lib.Seq.{take-length}
 use Rattle.pattern.specs.Codes.{decode}
 use Rattle.matcher.specs.Match.{matches}
-use Rattle.matcher.proofs.Laws.{first_marks, more-pieces, dead}
 use Rattle.matcher.proofs.walk_short.Given as goal
 
 abbrev pub invariant-loop-k : goal.invariant-loop-k

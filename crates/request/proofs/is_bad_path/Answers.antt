@@ -1,6 +1,5 @@
 use mathlib.Core.Path.{sym, ◌∙◌}
 use Rattle.request.proofs.Laws.{bad-empty, bad_more}
-use borrow.Author.Rules.{rules}
 use Rattle.request.proofs.is_bad_path.Goals as goal
 
 pub returns-then-path-eq0 : goal.returns-then-path-eq0

@@ -1,11 +1,11 @@
 use borrow.Author.Rules.{rules}
 use native.Mathlib.Omega.{arith}
-use Prim.Native.Nat.{◌+◌, ◌-◌, ◌≤◌}
+use Prim.Native.Nat.{◌+◌}
 use mathlib.Core.Path.{◌≡◌, sym, ◌∙◌}
 use mathlib.Core.Bool.{or_assoc}
 use lib.ListN.{drop}
 use lib.Seq.{drop-drop}
-use Rattle.request.proofs.Laws.{broken_in, broken-none, broken-block, broken-add, broken-pair}
+use Rattle.request.proofs.Laws.{broken-none, broken-block, broken-add, broken-pair}
 use Rattle.request.proofs.is_block_broken.Goals as goal
 
 pub loop-i-init : goal.loop-i-init

@@ -1,11 +1,7 @@
-use borrow.Author.Rules.{rules}
-use native.Mathlib.Omega.{arith}
-use Prim.Native.Nat.{◌+◌, ◌-◌, ◌≤◌}
-use mathlib.Core.Path.{◌≡◌, sym, ◌∙◌}
-use mathlib.Core.Bool.{or_assoc}
+use Prim.Native.Nat.{◌-◌, ◌≤◌}
+use mathlib.Core.Path.{◌≡◌}
 use lib.ListN.{drop}
-use lib.Seq.{drop-drop}
-use Rattle.request.proofs.Laws.{broken_in, broken-none, broken-block, broken-add, broken-pair}
+use Rattle.request.proofs.Laws.{broken_in}
 use Rattle.request.proofs.is_block_broken.Given as goal
 
 abbrev pub invariant-loop-i : goal.invariant-loop-i

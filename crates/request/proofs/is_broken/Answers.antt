@@ -1,8 +1,8 @@
 use borrow.Author.Rules.{rules}
 use native.Mathlib.Omega.{arith}
-use Prim.Native.Nat.{◌+◌, ◌-◌, ◌≤◌}
+use Prim.Native.Nat.{◌+◌, ◌-◌}
 use mathlib.Core.Path.{◌≡◌, sym, ◌∙◌}
-use mathlib.Core.Bool.{◌||◌, or_assoc, or-false}
+use mathlib.Core.Bool.{or_assoc, or-false}
 use lib.ListN.{length, drop}
 use lib.Seq.{drop-drop}
 use Rattle.request.proofs.Laws.{broken_in, broken-none, broken-add, broken-block, broken-last, broken-cover}

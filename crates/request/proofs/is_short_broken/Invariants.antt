@@ -1,15 +1,11 @@
-use borrow.Author.Rules.{rules}
-use native.Mathlib.Omega.{arith}
-use Prim.Native.Nat.{◌+◌, ◌-◌}
-use Prim.Native.Char.{code}
-use mathlib.Core.Path.{◌≡◌, sym, ap, ◌∙◌}
-use mathlib.Core.Bool.{Bool, ◌||◌, ◌&&◌, or_assoc, or-false}
-use lib.ListN.{length, get_or, drop}
-use lib.Dec.{eqb}
+use Prim.Native.Nat.{◌-◌}
+use mathlib.Core.Path.{◌≡◌}
+use mathlib.Core.Bool.{◌||◌}
+use lib.ListN.{length, drop}
 use Rattle.scan.specs.Bytes.{holds}
 use Rattle.blanks.specs.Blanks.{nul}
 use Rattle.request.specs.Requests.{doubled}
-use Rattle.request.proofs.Laws.{broken_after, broken-more, broken-end}
+use Rattle.request.proofs.Laws.{broken_after}
 use Rattle.request.proofs.is_short_broken.Given as goal
 
 abbrev pub invariant-loop-i : goal.invariant-loop-i

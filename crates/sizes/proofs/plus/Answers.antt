@@ -1,5 +1,4 @@
 use Rattle.sizes.specs.Sizes.{plus_of}
-use borrow.Author.Rules.{rules}
 use Rattle.sizes.proofs.plus.Goals as goal
 
 pub returns : goal.returns

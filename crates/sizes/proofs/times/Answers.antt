@@ -1,7 +1,6 @@
 use native.Mathlib.Omega.{arith}
 use Rattle.sizes.specs.Sizes.{times_of}
 use Rattle.sizes.proofs.Laws.{mul-bound}
-use borrow.Author.Rules.{rules}
 use Rattle.sizes.proofs.times.Goals as goal
 
 pub overflow_mul-n : goal.overflow_mul-n

@@ -2,7 +2,6 @@ use mathlib.Core.Path.{◌∙◌}
 use native.Mathlib.Omega.{arith}
 use Rattle.tokens.specs.Places.{seen}
 use Rattle.tokens.proofs.Laws.{from_place, from_end, from-nul, from-hash, from-quote, from-stop, from-plain}
-use borrow.Author.Rules.{rules}
 use Rattle.tokens.proofs.next_token.Goals as goal
 
 pub returns-then-text-p : goal.returns-then-text-p

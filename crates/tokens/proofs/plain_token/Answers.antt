@@ -4,7 +4,6 @@ use Rattle.scan.specs.Bytes.{run}
 use Rattle.tokens.specs.Tokens.{plain}
 use Rattle.tokens.specs.Places.{seen}
 use Rattle.tokens.proofs.Laws.{plain-found, plain-broken}
-use borrow.Author.Rules.{rules}
 use Rattle.tokens.proofs.plain_token.Goals as goal
 
 pub returns-then-begins_at : goal.returns-then-begins_at

@@ -1,10 +1,7 @@
-use borrow.Author.Rules.{rules}
 use Prim.Native.Nat.{◌+◌, ◌-◌}
 use mathlib.Core.Path.{◌≡◌}
-use native.Mathlib.Omega.{arith}
 use lib.ListN.{length, drop}
 use Rattle.scan.specs.Bytes.{run}
-use Rattle.scan.proofs.Laws.{run_more, run-stop, run_end}
 use Rattle.tokens.specs.Tokens.{in_quotes}
 use Rattle.tokens.proofs.quoted_end.Given as goal
 

@@ -7,7 +7,6 @@ use Rattle.scan.specs.Bytes.{run}
 use Rattle.tokens.specs.Tokens.{in_quotes, quote}
 use Rattle.tokens.specs.Places.{seen}
 use Rattle.tokens.proofs.Laws.{quoted-found, quoted-open}
-use borrow.Author.Rules.{rules}
 use Rattle.tokens.proofs.quoted_token.Goals as goal
 
 pub overflow_add-result-then-begins_at : goal.overflow_add-result-then-begins_at

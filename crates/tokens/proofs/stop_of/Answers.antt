@@ -1,5 +1,4 @@
 use Rattle.tokens.specs.Places.{stop_of}
-use borrow.Author.Rules.{rules}
 use Rattle.tokens.proofs.stop_of.Goals as goal
 
 pub returns-in-Found : goal.returns-in-Found

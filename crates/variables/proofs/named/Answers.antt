@@ -1,9 +1,6 @@
-use borrow.Author.Rules.{rules}
 use native.Mathlib.Omega.{arith}
-use mathlib.Core.Path.{◌≡◌, sym, ap₂, ◌∙◌}
-use Prim.Native.Nat.{min, ◌≤◌}
+use mathlib.Core.Path.{sym, ap₂, ◌∙◌}
 use Rattle.scan.specs.Bytes.{same, span}
-use Rattle.pattern.specs.Table.{number_of}
 use Rattle.pattern.proofs.Laws.{number-hit, number-miss, number-end}
 use Rattle.variables.proofs.named.Goals as goal
 

@@ -1,10 +1,7 @@
-use borrow.Author.Rules.{rules}
-use native.Mathlib.Omega.{arith}
-use mathlib.Core.Path.{◌≡◌, sym, ap₂, ◌∙◌}
+use mathlib.Core.Path.{◌≡◌}
 use Prim.Native.Nat.{min, ◌≤◌}
-use Rattle.scan.specs.Bytes.{same, span}
+use Rattle.scan.specs.Bytes.{span}
 use Rattle.pattern.specs.Table.{number_of}
-use Rattle.pattern.proofs.Laws.{number-hit, number-miss, number-end}
 use Rattle.variables.proofs.named.Given as goal
 
 abbrev pub invariant-loop-i : goal.invariant-loop-i
