@@ -147,11 +147,15 @@ tail-is slash (b ∷ t) e =
           joined = rw (p, k, later.joined);
         }
 
+matches-none : (p : List ℕ) → matches [] p ≡ is_empty p
+unfolding matches
+matches-none p = refl
+
 -- it matches the bytes that it fits, one each
 tail-matches : (t p : List ℕ) → matches (map piece_of t) p ≡ (eqb (length t) (length p) && fitting t p)
-unfolding fitting matches
-tail-matches [] [] = refl
-tail-matches [] (c ∷ p) = rw (ne_eqb 0 (suc (length p)) (λ q. omega arith))
+unfolding fitting
+tail-matches [] [] = matches-none []
+tail-matches [] (c ∷ p) = rw (matches-none (c ∷ p), ne_eqb 0 (suc (length p)) (λ q. omega arith))
 tail-matches (b ∷ t) p = go (eqb b (code "?")) refl p (tail-matches t)
   where
     eqb-suc : (m n : ℕ) → eqb (suc m) (suc n) ≡ eqb m n
@@ -216,7 +220,7 @@ module _ (any : Bool) (t path : List ℕ) where
           let h : length t ≤ length path = ltb-false (length path) (length t) p in
           let n : length t ≡ length (drop m path) = omega (arith, length-drop m path) in
           let a : accepts (star_piece any) (take m path) ≡ true = sym (star-accepts any (take m path)) ∙ and_right (fitting t (drop m path)) _ q in
-          some-intro _ (length path) m (omega arith)
+          some-intro (λ k. accepts (star_piece any) (take k path) && matches (map piece_of t) (drop k path)) (length path) m (omega arith)
           (rw (a, tail-matches t (drop m path), eq-eqb (length t) (length (drop m path)) n) (and_left (fitting t (drop m path)) _ q))
 
   star-matches : matches (star_piece any ∷ map piece_of t) path ≡ by_star

@@ -1,11 +1,7 @@
-use borrow.Author.Rules.{rules}
-use mathlib.Core.Path.{◌≡◌, refl, sym, ◌∙◌}
+use mathlib.Core.Path.{◌≡◌}
 use Prim.Native.Nat.{◌≤◌, ◌-◌}
-use native.Mathlib.Omega.{arith}
-use borrow.Author.Tests.{not-true, not-false}
 use lib.ListN.{length, drop}
 use Rattle.direct.specs.Direct.{fitting}
-use Rattle.direct.proofs.Turns.{fitting-stop, fitting-next, fitting-short, fitting-end}
 use Rattle.direct.proofs.fits.Given as goal
 
 abbrev pub invariant-loop-i : goal.invariant-loop-i

@@ -1,7 +1,6 @@
 use native.Mathlib.Omega.{arith}
 use mathlib.Core.Path.{◌∙◌}
 use Rattle.direct.proofs.Turns.{one_end, one-any, one_class, one_plain}
-use borrow.Author.Rules.{rules}
 use Rattle.direct.proofs.one_at.Goals as goal
 
 pub returns-then-c-eq63 : goal.returns-then-c-eq63

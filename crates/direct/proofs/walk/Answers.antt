@@ -1,16 +1,11 @@
-use borrow.Author.Rules.{rules}
-use mathlib.Core.Path.{◌≡◌, refl, ap, ◌∙◌}
-use Prim.Native.Nat.{◌≤◌, ◌-◌}
+use mathlib.Core.Path.{ap, ◌∙◌}
+use Prim.Native.Nat.{◌-◌}
 use native.Mathlib.Omega.{arith}
 use borrow.Author.Tests.{not-true, not-false}
 use Rattle.direct.specs.declared.One.{One}
-use lib.ListN.{length, drop, get_or, length-drop}
-use Rattle.direct.specs.Direct.{outcome_of}
+use lib.ListN.{drop, get_or, length-drop}
 use Rattle.direct.proofs.Turns.{one-le, outcome-rest, outcome-miss, outcome-next, outcome-end}
 use Rattle.direct.proofs.walk.Goals as goal
-
-pub loop-k-init : goal.loop-k-init
-loop-k-init c = (omega arith, omega arith, refl)
 
 pub returns-then-one-eq0 : goal.returns-then-one-eq0
 returns-then-one-eq0 c = outcome-rest c.args.s.now c.args.path.now c.loop-k.i c.loop-k.k c.loop-k.after c.one_at-one.result (omega arith) c.one_at-one.ensures c.if-one-eq0.true ∙ c.loop-k.invariant.2

@@ -1,12 +1,7 @@
-use borrow.Author.Rules.{rules}
-use mathlib.Core.Path.{◌≡◌, refl, ap, ◌∙◌}
+use mathlib.Core.Path.{◌≡◌}
 use Prim.Native.Nat.{◌≤◌, ◌-◌}
-use native.Mathlib.Omega.{arith}
-use borrow.Author.Tests.{not-true, not-false}
-use Rattle.direct.specs.declared.One.{One}
-use lib.ListN.{length, drop, get_or, length-drop}
+use lib.ListN.{length, drop}
 use Rattle.direct.specs.Direct.{outcome_of}
-use Rattle.direct.proofs.Turns.{one-le, outcome-rest, outcome-miss, outcome-next, outcome-end}
 use Rattle.direct.proofs.walk.Given as goal
 
 abbrev pub invariant-loop-k : goal.invariant-loop-k

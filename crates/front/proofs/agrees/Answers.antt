@@ -1,16 +1,9 @@
-use borrow.Author.Rules.{rules}
 use borrow.Author.Count.{below_more}
-use borrow.Author.Tests.{not-true}
-use Prim.Native.Nat.{ℕ, ◌+◌, ◌-◌, ◌≤◌, ◌<◌}
-use mathlib.Core.Path.{◌≡◌}
-use mathlib.Core.Bool.{false}
+use Prim.Native.Nat.{◌+◌}
 use native.Mathlib.Omega.{arith}
 use Rattle.front.specs.Front.{Passed}
 use Rattle.front.proofs.Far.{none-differs}
 use Rattle.front.proofs.agrees.Goals as goal
-
-pub loop-i-init : goal.loop-i-init
-loop-i-init c = (omega arith, λ e j h. absurd (omega arith))
 
 pub loop-i-preserved : goal.loop-i-preserved
 loop-i-preserved c = (
@@ -19,6 +12,3 @@ loop-i-preserved c = (
       let h = none-differs c.args.pattern.now c.args.path.now (c.args.at + c.loop-i.i) c.loop-i.differs c.is_special.result c.is_special.ensures e in
       below_more (λ j. Passed c.args.pattern.now c.args.path.now (c.args.at + j)) c.loop-i.i (c.loop-i.invariant.1 h.0) h.1,
 )
-
-pub returns : goal.returns
-returns c = λ e j h. c.loop-i.invariant.1 (not-true c.loop-i.differs e) j (omega arith)

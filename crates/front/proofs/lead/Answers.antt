@@ -1,12 +1,10 @@
 use borrow.Author.Rules.{rules}
-use mathlib.Core.Path.{◌≡◌, sym, ap, ◌∙◌}
+use mathlib.Core.Path.{sym, ap, ◌∙◌}
 use mathlib.Core.List.{List}
-use Prim.Native.Nat.{ℕ, ◌-◌, ◌≤◌}
+use Prim.Native.Nat.{ℕ}
 use native.Mathlib.Omega.{arith}
-use lib.ListN.{length}
-use Rattle.scan.specs.Bytes.{span}
 use Rattle.front.specs.Front.{lead_of}
-use Rattle.front.proofs.Turns.{lead_from, lead-first, lead-next, lead-differs, lead-short, lead-stops, lead-ends}
+use Rattle.front.proofs.Turns.{lead-first, lead-next, lead-differs, lead-short, lead-stops, lead-ends}
 use Rattle.front.proofs.lead.Goals as goal
 
 pub loop-i-init : goal.loop-i-init

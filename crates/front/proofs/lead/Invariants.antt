@@ -1,12 +1,9 @@
-use borrow.Author.Rules.{rules}
-use mathlib.Core.Path.{◌≡◌, sym, ap, ◌∙◌}
-use mathlib.Core.List.{List}
-use Prim.Native.Nat.{ℕ, ◌-◌, ◌≤◌}
-use native.Mathlib.Omega.{arith}
+use mathlib.Core.Path.{◌≡◌}
+use Prim.Native.Nat.{◌-◌, ◌≤◌}
 use lib.ListN.{length}
 use Rattle.scan.specs.Bytes.{span}
 use Rattle.front.specs.Front.{lead_of}
-use Rattle.front.proofs.Turns.{lead_from, lead-first, lead-next, lead-differs, lead-short, lead-stops, lead-ends}
+use Rattle.front.proofs.Turns.{lead_from}
 use Rattle.front.proofs.lead.Given as goal
 
 abbrev pub invariant-loop-i : goal.invariant-loop-i

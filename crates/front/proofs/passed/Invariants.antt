@@ -1,10 +1,6 @@
-use borrow.Author.Rules.{rules}
-use borrow.Author.Tests.{not-false}
 use Prim.Native.Nat.{ℕ, ◌-◌, ◌≤◌, ◌<◌}
-use native.Mathlib.Omega.{arith}
 use lib.ListN.{length}
 use Rattle.front.specs.Front.{Passed}
-use Rattle.front.proofs.Far.{below-add}
 use Rattle.front.proofs.passed.Given as goal
 
 abbrev pub invariant-loop-i : goal.invariant-loop-i

@@ -1,8 +1,7 @@
-use borrow.Author.Rules.{rules}
 use native.Mathlib.Omega.{arith}
 use Rattle.scan.specs.Bytes.{span}
 use Rattle.scan.proofs.Laws.{length-span}
-use Rattle.glob.proofs.Laws.{len-path, len-pattern, short-text, fits-rest, behind-matched}
+use Rattle.glob.proofs.Laws.{len-path, len-pattern, short-text, behind-matched}
 use Rattle.glob.proofs.match_behind.Goals as goal
 
 pub overflow_add-a : goal.overflow_add-a
@@ -11,8 +10,8 @@ overflow_add-a c = omega (arith, len-pattern (span c.args.text.now c.args.a c.ar
 pub slice_bounds-match_expansions-count : goal.slice_bounds-match_expansions-count
 slice_bounds-match_expansions-count c = omega (arith, len-path (span c.args.text.now c.args.a c.args.e) c.args.path.now c.requires.1 c.requires.2)
 
-pub match_expansions-requires : goal.match_expansions-requires
-match_expansions-requires c = fits-rest c.args.text.now c.args.path.now c.requires.0 c.args.l.len
+pub slice_bounds-match_expansions-start : goal.slice_bounds-match_expansions-start
+slice_bounds-match_expansions-start c = omega (arith, len-path (span c.args.text.now c.args.a c.args.e) c.args.path.now c.requires.1 c.requires.2)
 
 pub returns : goal.returns
 returns c = behind-matched c.args.text.now c.args.vars.now c.args.n c.args.a c.args.e c.args.path.now c.requires.1 c.requires.2 c.args.sizes.now c.match_expansions.ensures

@@ -1,4 +1,3 @@
-use borrow.Author.Rules.{rules}
 use mathlib.Core.List.{map}
 use lib.ListN.{take}
 use Rattle.pattern.specs.Codes.{decode}

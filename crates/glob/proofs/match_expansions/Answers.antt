@@ -1,11 +1,9 @@
 use borrow.Author.Rules.{rules}
 use native.Mathlib.Omega.{arith}
-use Prim.Native.Nat.{◌-◌, ◌≤◌}
-use mathlib.Core.Path.{ap}
+use Prim.Native.Nat.{◌-◌}
 use Rattle.scan.specs.Bytes.{span}
-use Rattle.sizes.specs.declared.Size.{Size}
 use Rattle.sizes.specs.Numbered.{pattern_by}
-use Rattle.glob.proofs.Laws.{Tried, tried-none, tried-more, tried-found, tried-all}
+use Rattle.glob.proofs.Laws.{tried-none, tried-more, tried-found}
 use Rattle.glob.proofs.match_expansions.Goals as goal
 
 pub loop-d-init : goal.loop-d-init
@@ -22,9 +20,3 @@ pub loop-d-preserved : goal.loop-d-preserved
 loop-d-preserved c =
     let a = pattern_by c.args.text.now c.args.vars.now c.args.n c.args.sizes.now (span c.args.text.now c.args.a c.args.e) in
     (tried-more c.args.slash a c.args.path.now c.match_expansion-m.ensures c.loop-d.invariant.0 c.if-m.false, omega arith)
-
-pub returns : goal.returns
-returns c =
-    let a = pattern_by c.args.text.now c.args.vars.now c.args.n c.args.sizes.now (span c.args.text.now c.args.a c.args.e) in
-    let e = ap (λ (z : Size). z.count) c.pattern_size-size.ensures in
-    tried-all c.args.slash a c.args.path.now c.loop-d.invariant.0 a.size.count (omega arith)

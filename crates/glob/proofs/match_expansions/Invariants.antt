@@ -1,11 +1,7 @@
-use borrow.Author.Rules.{rules}
-use native.Mathlib.Omega.{arith}
 use Prim.Native.Nat.{◌-◌, ◌≤◌}
-use mathlib.Core.Path.{ap}
 use Rattle.scan.specs.Bytes.{span}
-use Rattle.sizes.specs.declared.Size.{Size}
 use Rattle.sizes.specs.Numbered.{pattern_by}
-use Rattle.glob.proofs.Laws.{Tried, tried-none, tried-more, tried-found, tried-all}
+use Rattle.glob.proofs.Laws.{Tried}
 use Rattle.glob.proofs.match_expansions.Given as goal
 
 abbrev pub invariant-loop-d : goal.invariant-loop-d

@@ -1,13 +1,9 @@
-use borrow.Author.Rules.{rules}
 use mathlib.Core.Path.{sym, ◌∙◌}
 use mathlib.Core.Bool.{false}
 use Rattle.scan.specs.Bytes.{span}
 use Rattle.front.proofs.Laws.{lead-none, lead-some}
 use Rattle.glob.specs.Glob.{matched_in}
 use Rattle.glob.proofs.match_good.Goals as goal
-
-pub match_behind-requires : goal.match_behind-requires
-match_behind-requires c = (sym c.both_fit.ensures ∙ c.if-both_fit.true, c.lead-l.ensures, c.if-l.true)
 
 pub returns-then-l : goal.returns-then-l
 unfolding matched_in

@@ -1,4 +1,3 @@
-use borrow.Author.Rules.{rules}
 use mathlib.Core.Bool.{false}
 use Rattle.scan.specs.Bytes.{span}
 use Rattle.front.proofs.Laws.{lead-some}

@@ -1,4 +1,3 @@
-use borrow.Author.Rules.{rules}
 use native.Mathlib.Omega.{arith}
 use Rattle.scan.specs.Bytes.{span}
 use Rattle.scan.proofs.Laws.{length-span}
@@ -11,8 +10,8 @@ overflow_add-a c = omega (arith, len-pattern (span c.args.text.now c.args.a c.ar
 pub slice_bounds-may_open-count : goal.slice_bounds-may_open-count
 slice_bounds-may_open-count c = omega (arith, len-path (span c.args.text.now c.args.a c.args.e) c.args.path.now c.requires.1 c.requires.2)
 
-pub match_judged-requires : goal.match_judged-requires
-match_judged-requires c = c.requires
+pub slice_bounds-may_open-start : goal.slice_bounds-may_open-start
+slice_bounds-may_open-start c = omega (arith, len-path (span c.args.text.now c.args.a c.args.e) c.args.path.now c.requires.1 c.requires.2)
 
 pub returns-then-may_open : goal.returns-then-may_open
 returns-then-may_open c = under-used c.args.text.now c.args.vars.now c.args.n (span c.args.text.now c.args.a c.args.e) c.args.path.now c.used.ensures c.match_judged.ensures

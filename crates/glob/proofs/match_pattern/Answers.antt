@@ -1,4 +1,3 @@
-use borrow.Author.Rules.{rules}
 use mathlib.Core.Path.{sym, ◌∙◌}
 use mathlib.Core.Bool.{false}
 use Rattle.scan.specs.Bytes.{span}
@@ -6,12 +5,6 @@ use Rattle.pattern.specs.Table.{env}
 use Rattle.front.proofs.Laws.{front-none, lead-none}
 use Rattle.glob.proofs.Laws.{unmatched, unfit}
 use Rattle.glob.proofs.match_pattern.Goals as goal
-
-pub match_told-requires : goal.match_told-requires
-match_told-requires c = (sym c.both_fit.ensures ∙ c.if-both_fit.true, c.lead_far-led.ensures, c.if-led.true)
-
-pub returns-then-led : goal.returns-then-led
-returns-then-led c = c.match_told.ensures
 
 pub returns-else-led : goal.returns-else-led
 returns-else-led c =

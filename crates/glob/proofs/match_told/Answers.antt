@@ -1,22 +1,13 @@
 use mathlib.Core.Path.{sym, ap, ◌∙◌}
 use mathlib.Core.List.{List}
-use mathlib.Core.Bool.{false}
 use Prim.Native.Nat.{ℕ}
 use Rattle.scan.specs.Bytes.{span}
 use Rattle.pattern.specs.Table.{env}
 use Rattle.matcher.specs.Match.{matches_some}
-use Rattle.front.specs.Front.{lead_of}
 use Rattle.glob.specs.Glob.{Hit, matched_of}
 use Rattle.glob.proofs.Laws.{unmatched}
 use Rattle.glob.proofs.Direct.{direct-matched}
-use borrow.Author.Rules.{rules}
 use Rattle.glob.proofs.match_told.Goals as goal
-
-pub told-t-requires : goal.told-t-requires
-told-t-requires c = (c.requires.1 ∙ ap (λ (s : List ℕ). lead_of false s c.args.path.now) (sym c.span-pattern.ensures), c.requires.2)
-
-pub match_led-requires : goal.match_led-requires
-match_led-requires c = c.requires
 
 pub returns-in-Miss : goal.returns-in-Miss
 returns-in-Miss c = unmatched c.args.text.now (env c.args.text.now c.args.vars.now c.args.n) (span c.args.text.now c.args.a c.args.e) c.args.path.now (ap (λ (s : List ℕ). matches_some (env c.args.text.now c.args.vars.now c.args.n) s c.args.path.now) (sym c.span-pattern.ensures) ∙ c.told-t.ensures.miss (env c.args.text.now c.args.vars.now c.args.n) c.in-Miss.is)

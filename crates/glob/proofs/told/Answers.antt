@@ -1,7 +1,6 @@
 use native.Mathlib.Omega.{arith}
-use mathlib.Core.Path.{◌≡◌, sym, ap₂, ◌∙◌}
+use mathlib.Core.Path.{sym, ap₂, ◌∙◌}
 use mathlib.Core.Bool.{not}
-use Prim.Native.Nat.{ℕ}
 use borrow.Author.Tests.{eqb-true, ltb-false, not-false}
 use lib.Dec.{eqb, ltb}
 use lib.ListN.{length, get_or}
@@ -10,31 +9,22 @@ use Rattle.scan.proofs.Laws.{span_rest}
 use Rattle.direct.specs.Direct.{outcome_of}
 use Rattle.glob.proofs.Laws.{len-path, len-pattern}
 use Rattle.glob.proofs.Direct.{direct-miss, direct-some, direct-exactly, direct_good}
-use borrow.Author.Rules.{rules}
 use Rattle.glob.proofs.told.Goals as goal
-
-pub returns-then-len-eq0 : goal.returns-then-len-eq0
-returns-then-len-eq0 c =
-    record {
-      miss = λ vs q. absurd (let z : ◌≡◌ {A = ℕ} 0 1 = cc in omega arith);
-      hit = λ vs q. absurd (let z : ◌≡◌ {A = ℕ} 0 1 = cc in omega arith);
-    }
 
 pub bounds-pattern-0 : goal.bounds-pattern-0
 bounds-pattern-0 c = omega (arith, len-pattern c.args.pattern.now c.args.path.now c.requires.0 c.requires.1)
 
-pub returns-then-pattern : goal.returns-then-pattern
-returns-then-pattern c =
-    record {
-      miss = λ vs q. absurd (let z : ◌≡◌ {A = ℕ} 0 1 = cc in omega arith);
-      hit = λ vs q. absurd (let z : ◌≡◌ {A = ℕ} 0 1 = cc in omega arith);
-    }
-
 pub slice_bounds-compare-count : goal.slice_bounds-compare-count
 slice_bounds-compare-count c = omega (arith, len-pattern c.args.pattern.now c.args.path.now c.requires.0 c.requires.1)
 
+pub slice_bounds-compare-start : goal.slice_bounds-compare-start
+slice_bounds-compare-start c = omega (arith, len-pattern c.args.pattern.now c.args.path.now c.requires.0 c.requires.1)
+
 pub slice_bounds-compare-count-2 : goal.slice_bounds-compare-count-2
 slice_bounds-compare-count-2 c = omega (arith, len-path c.args.pattern.now c.args.path.now c.requires.0 c.requires.1)
+
+pub slice_bounds-compare-start-2 : goal.slice_bounds-compare-start-2
+slice_bounds-compare-start-2 c = omega (arith, len-path c.args.pattern.now c.args.path.now c.requires.0 c.requires.1)
 
 pub returns : goal.returns
 returns c =

@@ -1,11 +1,8 @@
-use borrow.Author.Rules.{rules}
-use mathlib.Core.Path.{◌≡◌, sym, ◌∙◌}
+use mathlib.Core.Path.{◌≡◌}
 use mathlib.Core.Bool.{false}
 use Prim.Native.Nat.{◌+◌, ◌-◌, ◌≤◌}
-use native.Mathlib.Omega.{arith}
 use lib.ListN.{length, drop}
 use Rattle.front.specs.Front.{front_after}
-use Rattle.words.proofs.Turns.{front_goes, front-stops, front_ends}
 use Rattle.words.proofs.front_len.Given as goal
 
 abbrev pub invariant-loop-i : goal.invariant-loop-i

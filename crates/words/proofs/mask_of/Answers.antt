@@ -1,13 +1,9 @@
-use borrow.Author.Rules.{rules}
 use Prim.Native.Nat.{◌*◌}
 use native.Mathlib.Omega.{arith}
 use native.Mathlib.Nat.{min-eq_left, min-eq_right}
-use lib.Pow.{shl_exact, pow_pos}
+use lib.Pow.{shl_exact}
 use Rattle.words.specs.Words.{mask_of}
 use Rattle.words.proofs.mask_of.Goals as goal
-
-pub overflow_sub-result : goal.overflow_sub-result
-overflow_sub-result c = omega (arith, shl_exact {a = 1} 1 (8 * c.args.n) 64 (omega arith) (omega arith), pow_pos (8 * c.args.n))
 
 pub returns-then-n-lt8 : goal.returns-then-n-lt8
 unfolding mask_of

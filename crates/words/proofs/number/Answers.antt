@@ -1,9 +1,8 @@
-use borrow.Author.Rules.{rules}
-use mathlib.Core.Path.{◌≡◌, sym, ap, ◌∙◌}
-use Prim.Native.Nat.{ℕ, ◌+◌, ◌-◌, ◌*◌, ◌^◌, ◌≤◌, ◌<◌}
+use mathlib.Core.Path.{sym, ap, ◌∙◌}
+use Prim.Native.Nat.{ℕ, ◌+◌, ◌-◌, ◌*◌}
 use native.Mathlib.Omega.{arith}
-use native.Mathlib.Nat.{sub_self, sub-zero}
-use lib.ListN.{drop, get_or}
+use native.Mathlib.Nat.{sub_self}
+use lib.ListN.{get_or}
 use Rattle.words.specs.Words.{word_of}
 use Rattle.words.proofs.Turns.{word-down, word_room, word_more}
 use Rattle.words.proofs.number.Goals as goal
@@ -13,26 +12,14 @@ unfolding word_of
 loop-i-init c = (omega arith, rw (sub_self c.args.n) (omega arith), rw (sub_self c.args.n))
 
 pub overflow_mul-w : goal.overflow_mul-w
-overflow_mul-w c = record { fits = omega (arith, word_room c.args.n c.loop-i.i c.loop-i.w (omega arith) c.loop-i.invariant.0 c.loop-i.invariant.1 c.requires.0) }
-
-pub bounds-s-i : goal.bounds-s-i
-bounds-s-i c = omega (arith, c.requires.1)
-
-pub overflow_cast-w : goal.overflow_cast-w
-overflow_cast-w c = omega (arith, c.shared_slice_known-1.given (c.loop-i.i - 1))
+overflow_mul-w c = record { fits = omega (arith, word_room c.args.n c.loop-i.i c.loop-i.w (omega arith) c.loop-i.invariant.0 c.loop-i.invariant.1 c.requires.n_bound) }
 
 pub overflow_add-w : goal.overflow_add-w
-overflow_add-w c = record { fits = omega (arith, word_room c.args.n c.loop-i.i c.loop-i.w (omega arith) c.loop-i.invariant.0 c.loop-i.invariant.1 c.requires.0, c.shared_slice_known-1.given (c.loop-i.i - 1)) }
+overflow_add-w c = record { fits = omega (arith, word_room c.args.n c.loop-i.i c.loop-i.w (omega arith) c.loop-i.invariant.0 c.loop-i.invariant.1 c.requires.n_bound, c.shared_slice_known-1.given (c.loop-i.i - 1)) }
 
 pub loop-i-preserved : goal.loop-i-preserved
 loop-i-preserved c = (
   omega arith,
   word_more c.args.n c.loop-i.i c.loop-i.w (omega arith) c.loop-i.invariant.0 c.loop-i.invariant.1 (get_or c.args.s.now (c.loop-i.i - 1) 0) (omega (arith, c.shared_slice_known-1.given (c.loop-i.i - 1))),
-  ap (λ (w : ℕ). w * 256 + get_or c.args.s.now (c.loop-i.i - 1) 0) c.loop-i.invariant.2 ∙ sym (word-down c.args.s.now c.args.n c.loop-i.i (omega arith) c.loop-i.invariant.0 (omega (arith, c.requires.1))),
+  ap (λ (w : ℕ). w * 256 + get_or c.args.s.now (c.loop-i.i - 1) 0) c.loop-i.invariant.2 ∙ sym (word-down c.args.s.now c.args.n c.loop-i.i (omega arith) c.loop-i.invariant.0 (omega (arith, c.requires.n_in_bounds))),
 )
-
-pub returns : goal.returns
-returns c =
-    let z : c.loop-i.i ≡ 0 = omega arith in
-    c.loop-i.invariant.2 ∙ ap (λ (j : ℕ). word_of (c.args.n - j) (drop j c.args.s.now)) z
-    ∙ ap (λ (k : ℕ). word_of k c.args.s.now) (sub-zero c.args.n)
