@@ -1,14 +1,9 @@
-use borrow.Author.Rules.{rules}
-use native.Mathlib.Omega.{arith}
 use mathlib.Core.Path.{◌≡◌}
-use Prim.Native.Nat.{◌-◌, ◌≤◌, min}
+use Prim.Native.Nat.{◌-◌, ◌≤◌}
 use lib.ListN.{length, drop}
 use Rattle.scan.specs.Bytes.{span}
 use Rattle.pattern.specs.Items.{alternatives}
-use Rattle.pattern.proofs.Laws.{seek-le}
-use Rattle.sizes.specs.Numbered.{name_by, one_by}
-use Rattle.sizes.proofs.Loops.{span-most}
-use Rattle.expand.proofs.Laws.{alternative-here, alternative-there, alternative-nowhere}
+use Rattle.sizes.specs.Numbered.{one_by}
 use Rattle.expand.proofs.pick_alternative.Given as goal
 
 abbrev pub invariant-loop-left : goal.invariant-loop-left

@@ -1,19 +1,12 @@
 use borrow.Author.Rules.{rules}
 use native.Mathlib.Omega.{arith}
-use mathlib.Core.Path.{◌≡◌, ap, ap₂, ◌∙◌}
+use mathlib.Core.Path.{ap, ap₂, ◌∙◌}
 use mathlib.Core.List.{List}
-use Prim.Native.Nat.{ℕ, ◌+◌, ◌-◌, ◌*◌, ◌≤◌, min}
+use Prim.Native.Nat.{ℕ, ◌*◌, min}
 use Rattle.scan.specs.Bytes.{span}
-use Rattle.pattern.specs.Table.{values_from, values_of}
-use Rattle.sizes.specs.Numbered.{Numbered, numbering, name_by, value_by, one_by}
-use Rattle.sizes.proofs.Steps.{values-whole}
+use Rattle.sizes.specs.Numbered.{name_by, value_by}
 use Rattle.expand.proofs.Laws.{value-here, value_there, value-nowhere}
 use Rattle.expand.proofs.pick_value.Goals as goal
-
-pub loop-k-init : goal.loop-k-init
-loop-k-init c =
-    let names = name_by c.args.text.now c.args.vars.now c.args.sizes.now (min 32 c.args.w) in
-    (omega arith, ap (λ (x : Numbered). x.nth c.args.d) (values-whole numbering names c.args.text.now c.args.vars.now c.args.w c.least-m.result (c.least-m.ensures ∙ ap (min 16) c.cell.ensures)))
 
 pub returns-then-left-c : goal.returns-then-left-c
 returns-then-left-c c =

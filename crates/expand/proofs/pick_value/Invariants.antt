@@ -1,13 +1,7 @@
-use borrow.Author.Rules.{rules}
-use native.Mathlib.Omega.{arith}
-use mathlib.Core.Path.{◌≡◌, ap, ap₂, ◌∙◌}
-use mathlib.Core.List.{List}
-use Prim.Native.Nat.{ℕ, ◌+◌, ◌-◌, ◌*◌, ◌≤◌, min}
-use Rattle.scan.specs.Bytes.{span}
+use mathlib.Core.Path.{◌≡◌}
+use Prim.Native.Nat.{◌+◌, ◌-◌, ◌*◌, ◌≤◌}
 use Rattle.pattern.specs.Table.{values_from, values_of}
-use Rattle.sizes.specs.Numbered.{Numbered, numbering, name_by, value_by, one_by}
-use Rattle.sizes.proofs.Steps.{values-whole}
-use Rattle.expand.proofs.Laws.{value-here, value_there, value-nowhere}
+use Rattle.sizes.specs.Numbered.{one_by}
 use Rattle.expand.proofs.pick_value.Given as goal
 
 abbrev pub invariant-loop-k : goal.invariant-loop-k

@@ -1,9 +1,8 @@
-use native.Mathlib.Omega.{arith}
 use Prim.Native.Nat.{ℕ, ◌-◌}
-use mathlib.Core.List.{List, [], map}
+use mathlib.Core.List.{List, map}
 use Rattle.scan.specs.Bytes.{span}
 use Rattle.pattern.specs.Pieces.{Byte}
-use Rattle.expand.proofs.Laws.{Writing, writing-none, writing-byte, writing-done, run-done}
+use Rattle.expand.proofs.Laws.{Writing}
 use Rattle.expand.proofs.push_run.Given as goal
 
 abbrev pub invariant-loop-i : goal.invariant-loop-i

@@ -4,14 +4,7 @@ use Rattle.pattern.specs.Items.{Single}
 use Rattle.pattern.specs.Places.{item_at}
 use Rattle.pattern.specs.Reads.{seen_part}
 use Rattle.expand.proofs.Laws.{item-read, item-single}
-use borrow.Author.Rules.{rules}
 use Rattle.expand.proofs.write_item.Goals as goal
-
-pub write_part-requires : goal.write_part-requires
-write_part-requires c = (c.requires.0, c.part_at-p.ensures.fits)
-
-pub write_value-requires : goal.write_value-requires
-write_value-requires c = c.requires.0
 
 pub returns-in-Single : goal.returns-in-Single
 returns-in-Single c =
@@ -19,8 +12,3 @@ returns-in-Single c =
     let read = item-read c.args.text.now s c.args.at c.args.i _ c.requires.1 c.in-Single.is in
     let e : item_at s c.args.at ≡ Single (seen_part c.args.text.now c.part_at-p.result) = item-single s c.args.at _ read ∙ ap Single (sym c.part_at-p.ensures.is) in
     rw e c.write_part.ensures
-
-pub returns-in-Among : goal.returns-in-Among
-returns-in-Among c =
-    rw (item-read c.args.text.now (span c.args.text.now c.args.a c.args.e) c.args.at c.args.i _ c.requires.1 c.in-Among.is, ← c.pick_alternative-c.ensures)
-    c.write_value.ensures

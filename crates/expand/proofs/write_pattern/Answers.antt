@@ -1,9 +1,8 @@
 use borrow.Author.Rules.{rules}
 use native.Mathlib.Omega.{arith}
-use mathlib.Core.Path.{◌≡◌, refl, sym, ap, ◌∙◌}
-use mathlib.Core.Bool.{false}
-use Prim.Native.Nat.{ℕ, ◌-◌, ◌≤◌, min}
-use mathlib.Core.List.{List, [], map}
+use mathlib.Core.Path.{refl, sym, ap, ◌∙◌}
+use Prim.Native.Nat.{ℕ, ◌≤◌, min}
+use mathlib.Core.List.{List, map}
 use lib.ListN.{length, drop}
 use Rattle.scan.specs.Bytes.{span}
 use Rattle.scan.proofs.Laws.{run_inside}
@@ -14,10 +13,10 @@ use Rattle.pattern.specs.Places.{item_at}
 use Rattle.pattern.specs.Reads.{seen_item}
 use Rattle.pattern.specs.Expansions.{of_items}
 use Rattle.pattern.proofs.Laws.{item_end-le, item_end-more}
-use Rattle.sizes.specs.Numbered.{numbering, name_by, item_by, pattern_by, high_of}
+use Rattle.sizes.specs.Numbered.{numbering, name_by, item_by, high_of}
 use Rattle.sizes.proofs.Steps.{items-next, items-last}
 use Rattle.codes.specs.Held.{held_pieces}
-use Rattle.expand.proofs.Laws.{Writing, writing-none, writing-turn, writing_more, writing-all, wrote_then, items-behind, held_to, held_more, drafted-gone, drafted-all, drafted-none}
+use Rattle.expand.proofs.Laws.{writing-none, writing-turn, writing_more, writing-all, wrote_then, items-behind, held_more, drafted-gone, drafted-all, drafted-none}
 use Rattle.expand.proofs.write_pattern.Goals as goal
 
 pub returns-then-text-gt65535 : goal.returns-then-text-gt65535
@@ -27,16 +26,10 @@ pub loop-at-init : goal.loop-at-init
 unfolding held_pieces
 loop-at-init c = (rw c.span-s.ensures (writing-none (omega arith)), refl, refl)
 
-pub write_item-w-requires : goal.write_item-w-requires
-write_item-w-requires c = (record { short = omega (arith, c.if-text-gt65535.false); room = omega (arith, c.loop-at.invariant.0.wrote.size, c.loop-at.invariant.0.wrote.fits) }, c.item_at-i.ensures)
-
 pub push_run-w-requires : goal.push_run-w-requires
 push_run-w-requires c =
     let h : c.item_end-next.result ≤ length c.span-s.result.now = omega (arith, c.item_end-next.ensures, item_end-le c.span-s.result.now c.loop-at.at) in
     (omega (arith, c.write_item-w.ensures.size, c.write_item-w.ensures.fits), omega (arith, c.literal_end-at.ensures, run_inside ordinary c.span-s.result.now c.item_end-next.result h))
-
-pub shape_of-out-then-held : goal.shape_of-out-then-held
-shape_of-out-then-held c = (c.push_run-w.ensures []).size ∙ c.write_item-w.ensures.size ∙ c.loop-at.invariant.0.wrote.size
 
 pub returns-then-held : goal.returns-then-held
 returns-then-held c =

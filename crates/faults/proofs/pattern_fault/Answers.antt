@@ -1,6 +1,5 @@
 use Rattle.scan.specs.Bytes.{span}
 use Rattle.faults.proofs.Laws.{pattern-too-long, pattern-sized, pattern-unset, pattern-bad}
-use borrow.Author.Rules.{rules}
 use Rattle.faults.proofs.pattern_fault.Goals as goal
 
 pub returns-then-s-gt1024 : goal.returns-then-s-gt1024

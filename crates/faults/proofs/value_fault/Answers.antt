@@ -1,7 +1,6 @@
 use Rattle.scan.specs.Bytes.{span}
 use Rattle.pattern.specs.Table.{env}
 use Rattle.faults.proofs.Laws.{value_none, value-too-long, value-good, value-unset, value-bad}
-use borrow.Author.Rules.{rules}
 use Rattle.faults.proofs.value_fault.Goals as goal
 
 pub returns-then-s-eq0 : goal.returns-then-s-eq0

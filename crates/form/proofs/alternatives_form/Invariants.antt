@@ -1,14 +1,8 @@
-use borrow.Author.Rules.{rules}
-use native.Mathlib.Omega.{arith}
-use mathlib.Core.Path.{◌≡◌, sym, ap, ◌∙◌}
-use Prim.Native.Nat.{ℕ, ◌-◌, ◌≤◌}
-use mathlib.Core.List.{List}
+use mathlib.Core.Path.{◌≡◌}
+use Prim.Native.Nat.{◌-◌, ◌≤◌}
 use lib.ListN.{length, drop}
 use Rattle.scan.specs.Bytes.{every, span}
-use Rattle.scan.proofs.Laws.{length-span}
-use Rattle.pattern.specs.Items.{before, alternatives, value_form}
-use Rattle.form.proofs.Laws.{every_more, every-stop, every-last}
-use Rattle.pattern.proofs.Laws.{seek-le}
+use Rattle.pattern.specs.Items.{alternatives, value_form}
 use Rattle.form.proofs.alternatives_form.Given as goal
 
 abbrev pub invariant-loop-s : goal.invariant-loop-s

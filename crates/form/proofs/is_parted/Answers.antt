@@ -2,11 +2,9 @@ use mathlib.Core.Path.{ap, ◌∙◌}
 use Prim.Native.Nat.{ℕ}
 use mathlib.Core.List.{List}
 use lib.ListN.{length}
-use Rattle.scan.specs.Bytes.{span}
-use Rattle.pattern.specs.Items.{before, alternatives}
+use Rattle.pattern.specs.Items.{alternatives}
 use lib.Dec.{leb}
 use Rattle.form.proofs.Laws.{parted}
-use borrow.Author.Rules.{rules}
 use Rattle.form.proofs.is_parted.Goals as goal
 
 pub returns : goal.returns

@@ -1,14 +1,8 @@
-use borrow.Author.Rules.{rules}
-use native.Mathlib.Omega.{arith}
-use mathlib.Core.Path.{◌≡◌, refl, sym, ap, ◌∙◌}
-use Prim.Native.Nat.{ℕ, ◌-◌}
-use mathlib.Core.List.{List}
+use mathlib.Core.Path.{◌≡◌}
+use Prim.Native.Nat.{◌-◌}
 use lib.ListN.{length, drop}
 use Rattle.scan.specs.Bytes.{every, span}
-use Rattle.pattern.specs.Items.{items, good_item, pattern_form}
-use Rattle.pattern.specs.Reads.{seen_item}
-use Rattle.form.proofs.Laws.{items-literals, items_more, items-stop, items-all}
-use Rattle.pattern.proofs.Laws.{item_end-more}
+use Rattle.pattern.specs.Items.{items, good_item}
 use Rattle.form.proofs.pattern_form.Given as goal
 
 abbrev pub invariant-loop-i : goal.invariant-loop-i

@@ -1,15 +1,9 @@
-use borrow.Author.Rules.{rules}
-use native.Mathlib.Omega.{arith}
-use mathlib.Core.Path.{◌≡◌, refl, sym, ap, ◌∙◌}
-use Prim.Native.Nat.{ℕ, ◌-◌}
-use mathlib.Core.List.{List}
+use mathlib.Core.Path.{◌≡◌}
+use Prim.Native.Nat.{◌-◌}
 use lib.ListN.{length, drop}
 use Rattle.scan.specs.Bytes.{every, span}
 use Rattle.pattern.specs.Pieces.{parts}
-use Rattle.pattern.specs.Items.{good_part, value_form}
-use Rattle.pattern.specs.Reads.{seen_part}
-use Rattle.form.proofs.Laws.{parts-literals, parts_more, parts-stop, parts_all}
-use Rattle.pattern.proofs.Laws.{part_end-more}
+use Rattle.pattern.specs.Items.{good_part}
 use Rattle.form.proofs.value_form.Given as goal
 
 abbrev pub invariant-loop-i : goal.invariant-loop-i

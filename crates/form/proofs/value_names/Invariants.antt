@@ -1,17 +1,11 @@
-use borrow.Author.Rules.{rules}
-use native.Mathlib.Omega.{arith}
-use mathlib.Core.Path.{◌≡◌, refl, sym, ap, ◌∙◌}
-use Prim.Native.Nat.{ℕ, ◌-◌}
-use mathlib.Core.List.{List}
+use mathlib.Core.Path.{◌≡◌}
+use Prim.Native.Nat.{◌-◌}
 use lib.ListN.{length, drop}
 use Rattle.scan.specs.Bytes.{every, span}
 use Rattle.pattern.specs.Pieces.{parts}
-use Rattle.pattern.specs.Items.{names_part, value_names}
-use Rattle.pattern.specs.Reads.{seen_part}
+use Rattle.pattern.specs.Items.{names_part}
 use Rattle.pattern.specs.Expansions.{is_set}
 use Rattle.pattern.specs.Table.{env}
-use Rattle.form.proofs.Laws.{parts-literals, parts_more, parts-stop, parts_all}
-use Rattle.pattern.proofs.Laws.{part_end-more}
 use Rattle.form.proofs.value_names.Given as goal
 
 abbrev pub invariant-loop-i : goal.invariant-loop-i

@@ -1,13 +1,8 @@
-use borrow.Author.Rules.{rules}
-use native.Mathlib.Omega.{arith}
-use mathlib.Core.Path.{ap, ◌∙◌}
-use Prim.Native.Nat.{ℕ, ◌-◌, ◌≤◌, min}
-use mathlib.Core.List.{List}
+use Prim.Native.Nat.{◌-◌, ◌≤◌, min}
 use lib.ListN.{length, drop}
-use Rattle.pattern.proofs.Laws.{seek-le}
 use Rattle.sizes.specs.Numbered.{name_by, one_by}
 use Rattle.pattern.specs.Items.{alternatives}
-use Rattle.sizes.proofs.Loops.{Summed, one_from, one-first, alternative-more, alternative-all, span-most}
+use Rattle.sizes.proofs.Loops.{Summed, one_from}
 use Rattle.measure.proofs.among_size.Given as goal
 
 abbrev pub invariant-loop-s : goal.invariant-loop-s

@@ -1,16 +1,7 @@
-use borrow.Author.Rules.{rules}
-use native.Mathlib.Omega.{arith}
-use mathlib.Core.Path.{sym, ap, ◌∙◌}
-use Prim.Native.Nat.{ℕ, ◌-◌, ◌≤◌, min}
-use mathlib.Core.List.{List}
+use Prim.Native.Nat.{◌-◌, ◌≤◌, min}
 use lib.ListN.{length}
-use Rattle.scan.proofs.Laws.{run_inside}
-use Rattle.pattern.specs.Literals.{ordinary}
-use Rattle.pattern.specs.Places.{item_at}
-use Rattle.pattern.specs.Reads.{seen_item}
-use Rattle.pattern.proofs.Laws.{item_end-le, item_end-more}
 use Rattle.sizes.specs.Numbered.{name_by, pattern_by}
-use Rattle.sizes.proofs.Loops.{Passed, items_from, items-first, items_more, items-all}
+use Rattle.sizes.proofs.Loops.{Passed, items_from}
 use Rattle.measure.proofs.pattern_size.Given as goal
 
 abbrev pub invariant-loop-at : goal.invariant-loop-at

@@ -1,8 +1,5 @@
 use mathlib.Core.Path.{refl}
 use Rattle.sizes.specs.Sizes.{with_size}
-use borrow.Author.Rules.{rules}
-use Rattle.measure.proofs.put_size.Reads as reads
-use Rattle.measure.proofs.put_size.Lts as lts
 use Rattle.measure.proofs.put_size.Goals as goal
 
 -- src/lib.rt:145:11

@@ -1,8 +1,5 @@
 use mathlib.Core.Path.{refl}
 use Rattle.sizes.specs.Sizes.{size_at}
-use borrow.Author.Rules.{rules}
-use Rattle.measure.proofs.size_at.Reads as reads
-use Rattle.measure.proofs.size_at.Lts as lts
 use Rattle.measure.proofs.size_at.Goals as goal
 
 -- src/lib.rt:126:22

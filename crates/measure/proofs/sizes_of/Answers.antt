@@ -1,9 +1,6 @@
-use borrow.Author.Rules.{rules}
 use native.Mathlib.Omega.{arith}
-use mathlib.Core.Path.{◌≡◌, ap, ◌∙◌}
-use Prim.Native.Nat.{◌-◌, ◌≤◌}
+use mathlib.Core.Path.{ap, ◌∙◌}
 use lib.ListN.{length}
-use Rattle.sizes.specs.Sizes.{Known}
 use Rattle.sizes.proofs.Table.{length-put, known-zero, known_more}
 use Rattle.measure.proofs.sizes_of.Goals as goal
 
@@ -12,6 +9,3 @@ loop-w-init c = (omega arith, ap length c.put_size.ensures ∙ length-put _ 0 _,
 
 pub loop-w-preserved : goal.loop-w-preserved
 loop-w-preserved c = (omega arith, ap length c.put_size-in-loop-w.ensures ∙ length-put _ _ _ ∙ c.loop-w.invariant.1, rw c.put_size-in-loop-w.ensures (known_more c.args.text.now c.args.vars.now c.loop-w.table c.loop-w.w c.variable_size-size.result (omega arith) c.loop-w.invariant.1 c.loop-w.invariant.2 c.variable_size-size.ensures))
-
-pub returns : goal.returns
-returns c = record { right = λ r h. c.loop-w.invariant.2.right r (omega arith) }

@@ -1,10 +1,7 @@
-use borrow.Author.Rules.{rules}
-use native.Mathlib.Omega.{arith}
-use mathlib.Core.Path.{◌≡◌, ap, ◌∙◌}
+use mathlib.Core.Path.{◌≡◌}
 use Prim.Native.Nat.{◌-◌, ◌≤◌}
 use lib.ListN.{length}
 use Rattle.sizes.specs.Sizes.{Known}
-use Rattle.sizes.proofs.Table.{length-put, known-zero, known_more}
 use Rattle.measure.proofs.sizes_of.Given as goal
 
 abbrev pub invariant-loop-w : goal.invariant-loop-w

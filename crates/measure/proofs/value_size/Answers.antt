@@ -1,16 +1,15 @@
 use borrow.Author.Rules.{rules}
 use native.Mathlib.Omega.{arith}
 use mathlib.Core.Path.{sym, ap, ◌∙◌}
-use Prim.Native.Nat.{ℕ, ◌-◌, ◌≤◌, min}
+use Prim.Native.Nat.{ℕ, min}
 use mathlib.Core.List.{List}
-use lib.ListN.{length}
 use Rattle.scan.proofs.Laws.{run_inside}
 use Rattle.pattern.specs.Literals.{ordinary}
 use Rattle.pattern.specs.Places.{part_at}
 use Rattle.pattern.specs.Reads.{seen_part}
 use Rattle.pattern.proofs.Laws.{part_end-le, part_end-more}
 use Rattle.sizes.specs.Numbered.{name_by, value_by}
-use Rattle.sizes.proofs.Loops.{Passed, parts_from, parts_first, parts_more, parts_all}
+use Rattle.sizes.proofs.Loops.{parts_first, parts_more, parts_all}
 use Rattle.measure.proofs.value_size.Goals as goal
 
 pub literals_size-size-requires : goal.literals_size-size-requires

@@ -1,16 +1,7 @@
-use borrow.Author.Rules.{rules}
-use native.Mathlib.Omega.{arith}
-use mathlib.Core.Path.{sym, ap, ◌∙◌}
-use Prim.Native.Nat.{ℕ, ◌-◌, ◌≤◌, min}
-use mathlib.Core.List.{List}
+use Prim.Native.Nat.{◌-◌, ◌≤◌, min}
 use lib.ListN.{length}
-use Rattle.scan.proofs.Laws.{run_inside}
-use Rattle.pattern.specs.Literals.{ordinary}
-use Rattle.pattern.specs.Places.{part_at}
-use Rattle.pattern.specs.Reads.{seen_part}
-use Rattle.pattern.proofs.Laws.{part_end-le, part_end-more}
 use Rattle.sizes.specs.Numbered.{name_by, value_by}
-use Rattle.sizes.proofs.Loops.{Passed, parts_from, parts_first, parts_more, parts_all}
+use Rattle.sizes.proofs.Loops.{Passed, parts_from}
 use Rattle.measure.proofs.value_size.Given as goal
 
 abbrev pub invariant-loop-at : goal.invariant-loop-at

@@ -2,11 +2,10 @@ use borrow.Author.Rules.{rules}
 use native.Mathlib.Omega.{arith}
 use mathlib.Core.Path.{ap, ap₂, ◌∙◌}
 use mathlib.Core.List.{List}
-use Prim.Native.Nat.{ℕ, ◌+◌, ◌-◌, ◌*◌, ◌≤◌, min}
+use Prim.Native.Nat.{ℕ, ◌*◌, min}
 use Rattle.scan.specs.Bytes.{span}
-use Rattle.pattern.specs.Table.{values_from, values_of}
-use Rattle.sizes.specs.Numbered.{name_by, value_by, one_by}
-use Rattle.sizes.proofs.Loops.{Summed, one_from, values-first, values-more, values-all}
+use Rattle.sizes.specs.Numbered.{name_by, value_by}
+use Rattle.sizes.proofs.Loops.{values-first, values-more, values-all}
 use Rattle.measure.proofs.variable_size.Goals as goal
 
 pub loop-k-init : goal.loop-k-init

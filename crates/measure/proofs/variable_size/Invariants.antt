@@ -1,12 +1,7 @@
-use borrow.Author.Rules.{rules}
-use native.Mathlib.Omega.{arith}
-use mathlib.Core.Path.{ap, ap₂, ◌∙◌}
-use mathlib.Core.List.{List}
-use Prim.Native.Nat.{ℕ, ◌+◌, ◌-◌, ◌*◌, ◌≤◌, min}
-use Rattle.scan.specs.Bytes.{span}
+use Prim.Native.Nat.{◌+◌, ◌-◌, ◌*◌, ◌≤◌, min}
 use Rattle.pattern.specs.Table.{values_from, values_of}
-use Rattle.sizes.specs.Numbered.{name_by, value_by, one_by}
-use Rattle.sizes.proofs.Loops.{Summed, one_from, values-first, values-more, values-all}
+use Rattle.sizes.specs.Numbered.{name_by, one_by}
+use Rattle.sizes.proofs.Loops.{Summed, one_from}
 use Rattle.measure.proofs.variable_size.Given as goal
 
 abbrev pub invariant-loop-k : goal.invariant-loop-k

@@ -1,17 +1,10 @@
 use native.Mathlib.Omega.{arith}
-use mathlib.Core.Path.{◌≡◌, sym, ap, ◌∙◌}
-use mathlib.Core.Bool.{true, false}
+use mathlib.Core.Path.{sym, ap, ◌∙◌}
+use mathlib.Core.Bool.{true}
 use lib.ListN.{length, drop, length-drop}
-use Rattle.scan.specs.Bytes.{span}
 use Rattle.scan.proofs.Laws.{length-span}
-use Rattle.pattern.specs.Pieces.{up_to}
 use Rattle.pattern.proofs.Laws.{up_to-le, class-read}
-use borrow.Author.Rules.{rules}
 use Rattle.parts.proofs.class_at.Goals as goal
-
-pub returns-then-n-eq0 : goal.returns-then-n-eq0
-returns-then-n-eq0 c =
-    let u : c.up_to-n.result ≡ up_to 93 (drop c.args.at (span c.args.text.now c.args.a c.args.e)) = rw c.span-s.ensures at c.up_to-n.ensures in record { is = rw (← u, c.if-n-eq0.true); fits = omega arith }
 
 pub overflow_add-at : goal.overflow_add-at
 overflow_add-at c = omega (arith, c.up_to-n.ensures, up_to-le 93 (drop c.args.at c.span-s.result.now), length-drop c.args.at c.span-s.result.now, ap length c.span-s.ensures, length-span c.args.text.now c.args.a c.args.e)
@@ -21,6 +14,3 @@ overflow_add-result c = omega (arith, c.up_to-n.ensures, up_to-le 93 (drop c.arg
 
 pub returns-then-good_class : goal.returns-then-good_class
 returns-then-good_class c = record { is = class-read c.args.text.now c.span-s.result.now c.span.result.now c.args.a c.args.e c.args.at c.up_to-n.result true c.span-s.ensures c.up_to-n.ensures c.if-n-eq0.false c.span.ensures (sym c.good_class.ensures ∙ c.if-good_class.true); fits = omega (arith, c.up_to-n.ensures, up_to-le 93 (drop c.args.at c.span-s.result.now), length-drop c.args.at c.span-s.result.now, ap length c.span-s.ensures, length-span c.args.text.now c.args.a c.args.e) }
-
-pub returns : goal.returns
-returns c = record { is = class-read c.args.text.now c.span-s.result.now c.span.result.now c.args.a c.args.e c.args.at c.up_to-n.result false c.span-s.ensures c.up_to-n.ensures c.if-n-eq0.false c.span.ensures (sym c.good_class.ensures ∙ c.if-good_class.false); fits = omega arith }

@@ -1,31 +1,15 @@
-use borrow.Author.Rules.{rules}
-use native.Mathlib.Omega.{arith}
 use mathlib.Core.Path.{◌≡◌, sym, ap, ◌∙◌}
 use Prim.Native.Nat.{ℕ, ◌+◌}
 use mathlib.Core.List.{List}
-use lib.ListN.{length}
 use Rattle.scan.specs.Bytes.{span}
-use Rattle.scan.proofs.Laws.{length-span}
 use Rattle.pattern.specs.Items.{Single, Among, alternatives}
 use Rattle.pattern.specs.Places.{part_at, item_at}
-use Rattle.pattern.proofs.Laws.{item_at-end, item_at-single, item_at-among, item_at-open, among-read}
+use Rattle.pattern.proofs.Laws.{item_at-single, item_at-among, item_at-open, among-read}
 use Rattle.parts.proofs.item_at.Goals as goal
-
-pub returns-then-s-i : goal.returns-then-s-i
-returns-then-s-i c = rw (← c.span-s.ensures) (sym (item_at-end c.span-s.result.now c.args.i c.if-s-i.true))
 
 pub returns-then-s-i-ne123 : goal.returns-then-s-i-ne123
 returns-then-s-i-ne123 c =
     let q : item_at (span c.args.text.now c.args.a c.args.e) c.args.i ≡ Single (part_at (span c.args.text.now c.args.a c.args.e) c.args.i) = rw (← c.span-s.ensures) (item_at-single c.span-s.result.now c.args.i c.if-s-i.false c.if-s-i-ne123.true) in ap Single c.part_at.ensures.is ∙ sym q
-
-pub overflow_add-result : goal.overflow_add-result
-overflow_add-result c = omega (arith, ap length c.span-s.ensures, length-span c.args.text.now c.args.a c.args.e)
-
-pub overflow_add-result-then-j-s : goal.overflow_add-result-then-j-s
-overflow_add-result-then-j-s c = omega (arith, ap length c.span-s.ensures, length-span c.args.text.now c.args.a c.args.e)
-
-pub overflow_add-result-then-j-s-2 : goal.overflow_add-result-then-j-s-2
-overflow_add-result-then-j-s-2 c = omega (arith, ap length c.span-s.ensures, length-span c.args.text.now c.args.a c.args.e)
 
 pub returns-then-j-s : goal.returns-then-j-s
 returns-then-j-s c =

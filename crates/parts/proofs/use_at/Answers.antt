@@ -5,12 +5,7 @@ use Rattle.scan.specs.Bytes.{span}
 use Rattle.scan.proofs.Laws.{length-span}
 use Rattle.pattern.specs.Pieces.{up_to}
 use Rattle.pattern.proofs.Laws.{up_to-le, use-seen}
-use borrow.Author.Rules.{rules}
 use Rattle.parts.proofs.use_at.Goals as goal
-
-pub returns-then-n-eq0 : goal.returns-then-n-eq0
-returns-then-n-eq0 c =
-    let u : c.up_to-n.result ≡ up_to 125 (drop c.args.at (span c.args.text.now c.args.a c.args.e)) = rw c.span-s.ensures at c.up_to-n.ensures in record { is = rw (← u, c.if-n-eq0.true); fits = omega arith }
 
 pub overflow_add-result : goal.overflow_add-result
 overflow_add-result c = omega (arith, c.up_to-n.ensures, up_to-le 125 (drop c.args.at c.span-s.result.now), length-drop c.args.at c.span-s.result.now, ap length c.span-s.ensures, length-span c.args.text.now c.args.a c.args.e)
