@@ -1,12 +1,9 @@
-use borrow.Author.Rules.{rules}
 use native.Mathlib.Omega.{arith}
-use Prim.Native.Nat.{suc, ◌+◌, ◌≤◌, ◌-◌}
+use Prim.Native.Nat.{suc, ◌+◌, ◌-◌}
 use mathlib.Core.Path.{◌≡◌, sym, ◌∙◌}
 use Rattle.faults.specs.Sized.{fault_by}
-use Rattle.rule.specs.Rules.{rules_at}
-use Rattle.statement.specs.Steps.{counted}
 use Rattle.body.specs.Places.{seen_rules}
-use Rattle.statement.proofs.Laws.{count-close, count-end, count-more, count-refused, counted_from, from-none}
+use Rattle.statement.proofs.Laws.{count-close, count-end, count-more, count-refused, from-none}
 use Rattle.body.proofs.rules_at.Goals as goal
 
 pub loop-count-init : goal.loop-count-init

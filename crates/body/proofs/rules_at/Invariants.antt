@@ -1,12 +1,9 @@
-use borrow.Author.Rules.{rules}
-use native.Mathlib.Omega.{arith}
-use Prim.Native.Nat.{suc, ◌+◌, ◌≤◌, ◌-◌}
-use mathlib.Core.Path.{◌≡◌, sym, ◌∙◌}
+use Prim.Native.Nat.{◌≤◌, ◌-◌}
+use mathlib.Core.Path.{◌≡◌}
 use Rattle.faults.specs.Sized.{fault_by}
 use Rattle.rule.specs.Rules.{rules_at}
 use Rattle.statement.specs.Steps.{counted}
-use Rattle.body.specs.Places.{seen_rules}
-use Rattle.statement.proofs.Laws.{count-close, count-end, count-more, count-refused, counted_from, from-none}
+use Rattle.statement.proofs.Laws.{counted_from}
 use Rattle.body.proofs.rules_at.Given as goal
 
 abbrev pub invariant-loop-count : goal.invariant-loop-count

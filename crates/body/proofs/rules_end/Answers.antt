@@ -26,7 +26,7 @@ returns-then-stands_at c = rw (c.standing_at-brace.ensures, ← c.stands_at.ensu
 
 pub returns-in_default : goal.returns-in_default
 unfolding end_at body_at seen seen_rules bytes
-returns-in_default c = rw (c.stop_of.ensures, ← c.stands_at.ensures, c.if-stands_at.false, ← c.qualifiers_at-q.ensures.is, ← pattern-from _ (seen_qualifiers c.qualifiers_at-q.result) c.qualifiers_at-q.ensures.token, ← c.pattern_at-token.ensures, no-token c.args.text.now c.pattern_at-token.result c.in_default.in_default-own.keys2, body_at)
+returns-in_default c = rw (c.stop_of.ensures, ← c.stands_at.ensures, c.if-stands_at.false, ← c.qualifiers_at-q.ensures.is, ← pattern-from _ (seen_qualifiers c.qualifiers_at-q.result) c.qualifiers_at-q.ensures.token, ← c.pattern_at-token.ensures, no-token c.args.text.now c.pattern_at-token.result (search rules), body_at)
 
 pub returns : goal.returns
 unfolding end_at body_at seen seen_rules bytes

@@ -1,7 +1,6 @@
 use mathlib.Core.Path.{refl}
 use Rattle.entries.specs.Ahead.{refused_reading}
 use Rattle.entries.proofs.Laws.{judged-accepted, judged-long, judged-refused, judged-short}
-use borrow.Author.Rules.{rules}
 use Rattle.text.specs.Reading.{nowhere}
 use Rattle.entries.proofs.judge.Goals as goal
 

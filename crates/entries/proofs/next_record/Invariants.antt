@@ -1,11 +1,7 @@
-use Prim.Native.Nat.{ℕ, min, ◌-◌}
-use native.Mathlib.Nat.{min-le_left}
-use native.Mathlib.Omega.{arith}
-use mathlib.Core.Path.{◌≡◌, refl, sym, ap, ◌∙◌}
-use lib.ListN.{get_or}
+use Prim.Native.Nat.{◌-◌}
+use mathlib.Core.Path.{◌≡◌}
 use Rattle.entries.specs.Ahead.{rest_from}
-use Rattle.entries.proofs.Cursors.{count, rest-none, rest-one, rest-pass}
-use borrow.Author.Rules.{rules}
+use Rattle.entries.proofs.Cursors.{count}
 use Rattle.entries.proofs.next_record.Given as goal
 
 abbrev pub invariant-loop-cursor : goal.invariant-loop-cursor

@@ -1,22 +1,14 @@
-use native.Mathlib.Omega.{arith}
 use mathlib.Core.Path.{sym, ap, ◌∙◌}
 use Rattle.scan.specs.Bytes.{span}
 use Rattle.text.specs.Places.{refused_by}
 use Rattle.pattern.specs.Table.{env}
 use Rattle.preamble.proofs.Laws.{name-found, name-missing}
-use borrow.Author.Rules.{rules}
 use Rattle.preamble.proofs.after_name.Goals as goal
 
-pub returns-in_default : goal.returns-in_default
-returns-in_default c =
-    record {
-      result_after = c.refused_at.ensures.by_index _ _ ∙ ap refused_by c.stop_of-stop.ensures ∙ sym (name-missing (env c.args.text.now c.args.vars.now c.args.n) c.args.text.now (span c.args.text.now c.args.start c.args.end) c.args.start c.args.end c.in_line_at-sign.result c.operator_at-operator.result c.in_line_at-sign.ensures c.operator_at-operator.ensures c.in_default.is c.next_token.result c.next_token.ensures);
-      few = λ _. omega (arith, c.refused_at.ensures.none);
-    }
+pub returns-in_default-clause-result_after : goal.returns-in_default-clause-result_after
+returns-in_default-clause-result_after c =
+    c.refused_at.ensures.by_index _ _ ∙ ap refused_by c.stop_of-stop.ensures ∙ sym (name-missing (env c.args.text.now c.args.vars.now c.args.n) c.args.text.now (span c.args.text.now c.args.start c.args.end) c.args.start c.args.end c.in_line_at-sign.result c.operator_at-operator.result c.in_line_at-sign.ensures c.operator_at-operator.ensures c.in_default.is c.next_token.result c.next_token.ensures)
 
-pub returns : goal.returns
-returns c =
-    record {
-      result_after = rw (name-found (env c.args.text.now c.args.vars.now c.args.n) c.args.text.now (span c.args.text.now c.args.start c.args.end) c.args.start c.args.end c.in_line_at-sign.result c.operator_at-operator.result c.in_line_at-sign.ensures c.operator_at-operator.ensures c.in-Found.adds c.in-Found.next c.in-Found.is) c.after_operator.ensures.result_after;
-      few = c.after_operator.ensures.few;
-    }
+pub returns-clause-result_after : goal.returns-clause-result_after
+returns-clause-result_after c =
+    rw (name-found (env c.args.text.now c.args.vars.now c.args.n) c.args.text.now (span c.args.text.now c.args.start c.args.end) c.args.start c.args.end c.in_line_at-sign.result c.operator_at-operator.result c.in_line_at-sign.ensures c.operator_at-operator.ensures c.in-Found.adds c.in-Found.next c.in-Found.is) c.after_operator.ensures.result_after

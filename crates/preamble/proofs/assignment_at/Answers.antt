@@ -1,7 +1,5 @@
-use native.Mathlib.Omega.{arith}
 use mathlib.Core.Path.{sym, ap, ◌∙◌}
 use Rattle.scan.specs.Bytes.{bytes}
-use Rattle.scan.proofs.Laws.{begins-lt}
 use Rattle.names.specs.Names.{variable_fault}
 use Rattle.blanks.proofs.Laws.{stands-inside}
 use Rattle.pattern.specs.Table.{env}
@@ -15,26 +13,14 @@ overflow_add-start c =
     let h = stands-inside (bytes "@{") c.args.text.now c.args.at.0 c.requires in
     search rules
 
-pub returns-then-number-ne0 : goal.returns-then-number-ne0
-returns-then-number-ne0 c =
-    record {
-      result_after = c.refused_at.ensures.by_index _ _ ∙ sym (assignment-bad (env c.args.text.now c.args.vars.now c.args.n) c.args.text.now c.args.at.0 c.standing_at-first.result.0 c.name_end-end.result c.standing_at-first.ensures c.name_end-end.ensures (sym c.begins_at.ensures ∙ c.if-begins_at.true) c.variable_fault-number.result (c.variable_fault-number.ensures ∙ ap variable_fault c.span.ensures) c.if-number-ne0.true);
-      few = λ _. omega (arith, c.refused_at.ensures.none);
-    }
+pub returns-then-number-ne0-clause-result_after : goal.returns-then-number-ne0-clause-result_after
+returns-then-number-ne0-clause-result_after c =
+    c.refused_at.ensures.by_index _ _ ∙ sym (assignment-bad (env c.args.text.now c.args.vars.now c.args.n) c.args.text.now c.args.at.0 c.standing_at-first.result.0 c.name_end-end.result c.standing_at-first.ensures c.name_end-end.ensures (sym c.begins_at.ensures ∙ c.if-begins_at.true) c.variable_fault-number.result (c.variable_fault-number.ensures ∙ ap variable_fault c.span.ensures) c.if-number-ne0.true)
 
-pub after_name-requires : goal.after_name-requires
-after_name-requires c = begins-lt 125 c.args.text.now _ (sym c.begins_at.ensures ∙ c.if-begins_at.true)
+pub returns-then-begins_at-clause-result_after : goal.returns-then-begins_at-clause-result_after
+returns-then-begins_at-clause-result_after c =
+    assignment-good (env c.args.text.now c.args.vars.now c.args.n) c.args.text.now c.args.at.0 c.standing_at-first.result.0 c.name_end-end.result c.standing_at-first.ensures c.name_end-end.ensures (sym c.begins_at.ensures ∙ c.if-begins_at.true) c.variable_fault-number.result (c.variable_fault-number.ensures ∙ ap variable_fault c.span.ensures) c.if-number-ne0.false c.after_name.ensures.result_after
 
-pub returns-then-begins_at : goal.returns-then-begins_at
-returns-then-begins_at c =
-    record {
-      result_after = assignment-good (env c.args.text.now c.args.vars.now c.args.n) c.args.text.now c.args.at.0 c.standing_at-first.result.0 c.name_end-end.result c.standing_at-first.ensures c.name_end-end.ensures (sym c.begins_at.ensures ∙ c.if-begins_at.true) c.variable_fault-number.result (c.variable_fault-number.ensures ∙ ap variable_fault c.span.ensures) c.if-number-ne0.false c.after_name.ensures.result_after;
-      few = c.after_name.ensures.few;
-    }
-
-pub returns : goal.returns
-returns c =
-    record {
-      result_after = c.refused_at-2.ensures.by_index _ _ ∙ sym (assignment-open (env c.args.text.now c.args.vars.now c.args.n) c.args.text.now c.args.at.0 c.standing_at-first.result.0 c.name_end-end.result c.standing_at-first.ensures c.name_end-end.ensures (sym c.begins_at.ensures ∙ c.if-begins_at.false));
-      few = λ _. omega (arith, c.refused_at-2.ensures.none);
-    }
+pub returns-clause-result_after : goal.returns-clause-result_after
+returns-clause-result_after c =
+    c.refused_at-2.ensures.by_index _ _ ∙ sym (assignment-open (env c.args.text.now c.args.vars.now c.args.n) c.args.text.now c.args.at.0 c.standing_at-first.result.0 c.name_end-end.result c.standing_at-first.ensures c.name_end-end.ensures (sym c.begins_at.ensures ∙ c.if-begins_at.false))

@@ -1,10 +1,7 @@
-use borrow.Author.Rules.{rules}
-use native.Mathlib.Omega.{arith}
 use Prim.Native.Nat.{◌+◌, ◌-◌}
 use mathlib.Core.Path.{◌≡◌}
 use lib.ListN.{length, drop}
 use Rattle.scan.specs.Bytes.{run}
-use Rattle.scan.proofs.Laws.{run_more, run-stop, run_end}
 use Rattle.blanks.specs.Blanks.{in_line}
 use Rattle.preamble.proofs.in_line_at.Given as goal
 

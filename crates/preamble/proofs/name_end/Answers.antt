@@ -1,9 +1,5 @@
 use borrow.Author.Rules.{rules}
 use native.Mathlib.Omega.{arith}
-use Prim.Native.Nat.{◌+◌, ◌-◌}
-use mathlib.Core.Path.{◌≡◌}
-use lib.ListN.{length, drop}
-use Rattle.scan.specs.Bytes.{run}
 use Rattle.scan.proofs.Laws.{run_more, run-stop, run_end}
 use Rattle.preamble.specs.Preamble.{in_name}
 use Rattle.preamble.proofs.name_end.Goals as goal

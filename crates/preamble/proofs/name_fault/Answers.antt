@@ -1,7 +1,6 @@
 use borrow.Author.Tests.{eq-eqb, ne_eqb, le-leb, lt-leb}
 use Rattle.preamble.proofs.Laws.{fault-number}
 use Rattle.scan.specs.Bytes.{span}
-use borrow.Author.Rules.{rules}
 use Rattle.preamble.proofs.name_fault.Goals as goal
 
 pub returns-then-number-eq0 : goal.returns-then-number-eq0

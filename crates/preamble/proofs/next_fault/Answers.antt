@@ -2,7 +2,6 @@ use borrow.Author.Tests.{lt-ltb}
 use native.Mathlib.Omega.{arith}
 use mathlib.Core.Path.{sym, ◌∙◌}
 use Rattle.preamble.proofs.Laws.{fault-free, fault-full-empty, fault-full}
-use borrow.Author.Rules.{rules}
 use Rattle.preamble.proofs.next_fault.Goals as goal
 
 pub returns-then-value_count-lt16 : goal.returns-then-value_count-lt16

@@ -1,6 +1,5 @@
 use mathlib.Core.Path.{refl, sym, ◌∙◌}
 use Rattle.scan.specs.Bytes.{bytes}
-use Rattle.scan.proofs.Laws.{begins-lt}
 use Rattle.preamble.specs.Preamble.{operator_from}
 use Rattle.preamble.specs.Places.{seen_operator}
 use Rattle.preamble.proofs.Laws.{two-fit}

@@ -1,11 +1,7 @@
-use borrow.Author.Rules.{rules}
-use Prim.Native.Nat.{◌≤◌}
 use native.Mathlib.Omega.{arith}
-use mathlib.Core.Path.{◌≡◌, refl, sym, ap, ◌∙◌}
-use mathlib.Core.List.{[]}
+use mathlib.Core.Path.{refl, sym, ap, ◌∙◌}
 use Rattle.scan.specs.Bytes.{bytes}
-use Rattle.pattern.specs.Table.{env, variables}
-use Rattle.preamble.specs.Preamble.{preamble_at}
+use Rattle.pattern.specs.Table.{variables}
 use Rattle.preamble.specs.Places.{preamble_of, seen_preamble}
 use Rattle.preamble.proofs.Laws.{preamble-none, turn-refused, turn-full, turn_more}
 use Rattle.preamble.proofs.preamble_at.Goals as goal
@@ -18,30 +14,21 @@ pub assignment_at-a-requires : goal.assignment_at-a-requires
 unfolding bytes
 assignment_at-a-requires c = sym c.stands_at.ensures ∙ c.loop-vars-test.true
 
-pub returns-then-a : goal.returns-then-a
+pub returns-then-a-clause-result_after : goal.returns-then-a-clause-result_after
 unfolding bytes
-returns-then-a c =
-    record {
-      result_after = turn-refused c.args.text.now c.loop-vars.vars c.loop-vars.count c.loop-vars.at.0 c.loop-vars.left c.loop-vars.invariant.0 (sym c.stands_at.ensures ∙ c.loop-vars-test.true) _ c.assignment_at-a.result c.assignment_at-a.ensures.result_after c.if-a.true;
-      few = c.assignment_at-a.ensures.few c.loop-vars.invariant.1;
-    }
+returns-then-a-clause-result_after c =
+    turn-refused c.args.text.now c.loop-vars.vars c.loop-vars.count c.loop-vars.at.0 c.loop-vars.left c.loop-vars.invariant.0 (sym c.stands_at.ensures ∙ c.loop-vars-test.true) _ c.assignment_at-a.result c.assignment_at-a.ensures.result_after c.if-a.true
 
-pub returns-then-left-eq0 : goal.returns-then-left-eq0
+pub returns-then-left-eq0-clause-result_after : goal.returns-then-left-eq0-clause-result_after
 unfolding bytes
-returns-then-left-eq0 c =
-    record {
-      result_after = c.refused_at.ensures.by_index _ _ ∙ turn-full c.args.text.now c.loop-vars.vars c.loop-vars.count c.loop-vars.at.0 c.loop-vars.left c.loop-vars.invariant.0 (sym c.stands_at.ensures ∙ c.loop-vars-test.true) _ c.assignment_at-a.result c.assignment_at-a.ensures.result_after c.if-a.false c.if-left-eq0.true c.standing_at.ensures;
-      few = omega (arith, c.refused_at.ensures.none);
-    }
+returns-then-left-eq0-clause-result_after c =
+    c.refused_at.ensures.by_index _ _ ∙ turn-full c.args.text.now c.loop-vars.vars c.loop-vars.count c.loop-vars.at.0 c.loop-vars.left c.loop-vars.invariant.0 (sym c.stands_at.ensures ∙ c.loop-vars-test.true) _ c.assignment_at-a.result c.assignment_at-a.ensures.result_after c.if-a.false c.if-left-eq0.true c.standing_at.ensures
 
 pub loop-vars-preserved : goal.loop-vars-preserved
 unfolding bytes
 loop-vars-preserved c = (turn_more c.args.text.now c.loop-vars.vars c.loop-vars.count c.loop-vars.at.0 c.loop-vars.left c.loop-vars.invariant.0 (sym c.stands_at.ensures ∙ c.loop-vars-test.true) _ c.assignment_at-a.result c.assignment_at-a.ensures.result_after c.if-a.false c.if-left-eq0.false, c.assignment_at-a.ensures.few c.loop-vars.invariant.1)
 
-pub returns : goal.returns
+pub returns-clause-result_after : goal.returns-clause-result_after
 unfolding bytes seen_preamble preamble_of
-returns c =
-    record {
-      result_after = sym (ap preamble_of (preamble-none _ _ _ c.loop-vars.left (sym c.stands_at.ensures ∙ c.loop-vars-test.false))) ∙ c.loop-vars.invariant.0;
-      few = c.loop-vars.invariant.1;
-    }
+returns-clause-result_after c =
+    sym (ap preamble_of (preamble-none _ _ _ c.loop-vars.left (sym c.stands_at.ensures ∙ c.loop-vars-test.false))) ∙ c.loop-vars.invariant.0

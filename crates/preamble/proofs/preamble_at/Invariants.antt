@@ -1,13 +1,9 @@
-use borrow.Author.Rules.{rules}
 use Prim.Native.Nat.{◌≤◌}
-use native.Mathlib.Omega.{arith}
-use mathlib.Core.Path.{◌≡◌, refl, sym, ap, ◌∙◌}
+use mathlib.Core.Path.{◌≡◌}
 use mathlib.Core.List.{[]}
-use Rattle.scan.specs.Bytes.{bytes}
-use Rattle.pattern.specs.Table.{env, variables}
+use Rattle.pattern.specs.Table.{env}
 use Rattle.preamble.specs.Preamble.{preamble_at}
-use Rattle.preamble.specs.Places.{preamble_of, seen_preamble}
-use Rattle.preamble.proofs.Laws.{preamble-none, turn-refused, turn-full, turn_more}
+use Rattle.preamble.specs.Places.{preamble_of}
 use Rattle.preamble.proofs.preamble_at.Given as goal
 
 abbrev pub invariant-loop-vars : goal.invariant-loop-vars

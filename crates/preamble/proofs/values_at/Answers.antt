@@ -1,8 +1,6 @@
 use borrow.Author.Rules.{rules}
 use mathlib.Core.Path.{sym, ◌∙◌}
 use Rattle.tokens.proofs.Laws.{no-token}
-use Rattle.variables.specs.Added.{room}
-use Rattle.preamble.specs.Places.{Upto}
 use Rattle.preamble.proofs.Laws.{upto-start, upto-end, upto-stop, upto-fault, upto-less, upto-more}
 use Rattle.preamble.proofs.values_at.Goals as goal
 
@@ -13,7 +11,7 @@ pub returns-then-line_ends : goal.returns-then-line_ends
 returns-then-line_ends c = upto-end c.loop-place.invariant c.in_line_at-p.ensures (sym c.line_ends.ensures ∙ c.if-line_ends.true) _
 
 pub returns-in_default : goal.returns-in_default
-returns-in_default c = upto-stop c.loop-place.invariant c.in_line_at-p.ensures c.next_token-r.result c.next_token-r.ensures (sym c.line_ends.ensures ∙ c.if-line_ends.false) (no-token _ _ c.in_default.in_default-own.keys2) _ c.stop_of-stop.ensures _ _
+returns-in_default c = upto-stop c.loop-place.invariant c.in_line_at-p.ensures c.next_token-r.result c.next_token-r.ensures (sym c.line_ends.ensures ∙ c.if-line_ends.false) (no-token _ _ (search rules)) _ c.stop_of-stop.ensures _ _
 
 pub returns-then-number-ne0 : goal.returns-then-number-ne0
 returns-then-number-ne0 c = upto-fault c.loop-place.invariant c.in_line_at-p.ensures c.next_token-r.result c.next_token-r.ensures (sym c.line_ends.ensures ∙ c.if-line_ends.false) c.in-Found.t c.in-Found.is c.requires c.next_fault-number.result (c.next_fault-number.ensures c.requires) c.if-number-ne0.true _ _

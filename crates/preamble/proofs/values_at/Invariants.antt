@@ -1,9 +1,5 @@
-use borrow.Author.Rules.{rules}
-use mathlib.Core.Path.{sym, ◌∙◌}
-use Rattle.tokens.proofs.Laws.{no-token}
 use Rattle.variables.specs.Added.{room}
 use Rattle.preamble.specs.Places.{Upto}
-use Rattle.preamble.proofs.Laws.{upto-start, upto-end, upto-stop, upto-fault, upto-less, upto-more}
 use Rattle.preamble.proofs.values_at.Given as goal
 
 abbrev pub invariant-loop-place : goal.invariant-loop-place

@@ -1,5 +1,4 @@
 use Rattle.tokens.specs.Places.{seen}
-use borrow.Author.Rules.{rules}
 use Rattle.profile.proofs.ends_at.Goals as goal
 
 pub returns-in-Found : goal.returns-in-Found

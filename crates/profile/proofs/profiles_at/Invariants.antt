@@ -1,10 +1,6 @@
-use borrow.Author.Rules.{rules}
-use native.Mathlib.Omega.{arith}
-use Prim.Native.Nat.{◌<◌, ◌-◌}
-use mathlib.Core.Path.{refl, sym, ◌∙◌}
+use Prim.Native.Nat.{◌-◌}
 use Rattle.pattern.specs.Table.{env}
-use Rattle.profile.specs.Places.{seen_profiles}
-use Rattle.profile.proofs.Laws.{SoFar, kept-end, kept-refused, more, read-end, start, turn-left, turn-refused, turn-room}
+use Rattle.profile.proofs.Laws.{SoFar}
 use Rattle.profile.proofs.profiles_at.Given as goal
 
 abbrev pub invariant-loop-place : goal.invariant-loop-place

@@ -1,5 +1,4 @@
 use Rattle.statement.specs.Places.{seen_rule, seen_step}
-use borrow.Author.Rules.{rules}
 use Rattle.statement.proofs.step_of.Goals as goal
 
 pub returns-in-Refused : goal.returns-in-Refused
