@@ -20,7 +20,7 @@ unfolding held_byte
 returns-then-slash-code c = rw (c.if-slash-code.true, held_byte)
 
 pub overflow_cast-result : goal.overflow_cast-result
-overflow_cast-result c = omega (arith, c.shared_slice_known-1.given c.args.at)
+overflow_cast-result c = omega (arith, (c.type_inv.path c.args.at).fits)
 
 pub returns-then-at-path : goal.returns-then-at-path
 unfolding held_byte

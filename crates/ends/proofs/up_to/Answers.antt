@@ -1,17 +1,12 @@
 use borrow.Author.Rules.{rules}
 use native.Mathlib.Omega.{arith}
-use Prim.Native.Nat.{ℕ}
-use mathlib.Core.Bool.{Bool, not}
-use lib.Dec.{eqb}
 use lib.ListN.{length, drop, length-drop}
 use borrow.Author.Tests.{eq-eqb, ne_eqb, lt-ltb, le-ltb}
 use Rattle.scan.specs.Bytes.{run}
 use Rattle.scan.proofs.Laws.{run_more, run-stop, run_end}
 use Rattle.pattern.specs.Pieces.{up_to}
+use Rattle.ends.proofs.up_to.Invariants.{other}
 use Rattle.ends.proofs.up_to.Goals as goal
-
-abbrev other : ℕ → ℕ → Bool
-other c b = not (eqb b c)
 
 pub returns-then-s-i : goal.returns-then-s-i
 unfolding up_to

@@ -6,7 +6,7 @@ use lib.ListN.{length, drop}
 use Rattle.scan.specs.Bytes.{run}
 use Rattle.ends.proofs.up_to.Given as goal
 
-abbrev other : ℕ → ℕ → Bool
+abbrev pub other : ℕ → ℕ → Bool
 other c b = not (eqb b c)
 
 abbrev pub invariant-loop-i : goal.invariant-loop-i

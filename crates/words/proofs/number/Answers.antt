@@ -15,11 +15,11 @@ pub overflow_mul-w : goal.overflow_mul-w
 overflow_mul-w c = record { fits = omega (arith, word_room c.args.n c.loop-i.i c.loop-i.w (omega arith) c.loop-i.invariant.0 c.loop-i.invariant.1 c.requires.n_bound) }
 
 pub overflow_add-w : goal.overflow_add-w
-overflow_add-w c = record { fits = omega (arith, word_room c.args.n c.loop-i.i c.loop-i.w (omega arith) c.loop-i.invariant.0 c.loop-i.invariant.1 c.requires.n_bound, c.shared_slice_known-1.given (c.loop-i.i - 1)) }
+overflow_add-w c = record { fits = omega (arith, word_room c.args.n c.loop-i.i c.loop-i.w (omega arith) c.loop-i.invariant.0 c.loop-i.invariant.1 c.requires.n_bound, (c.type_inv.s (c.loop-i.i - 1)).fits) }
 
 pub loop-i-preserved : goal.loop-i-preserved
 loop-i-preserved c = (
   omega arith,
-  word_more c.args.n c.loop-i.i c.loop-i.w (omega arith) c.loop-i.invariant.0 c.loop-i.invariant.1 (get_or c.args.s.now (c.loop-i.i - 1) 0) (omega (arith, c.shared_slice_known-1.given (c.loop-i.i - 1))),
+  word_more c.args.n c.loop-i.i c.loop-i.w (omega arith) c.loop-i.invariant.0 c.loop-i.invariant.1 (get_or c.args.s.now (c.loop-i.i - 1) 0) (omega (arith, (c.type_inv.s (c.loop-i.i - 1)).fits)),
   ap (λ (w : ℕ). w * 256 + get_or c.args.s.now (c.loop-i.i - 1) 0) c.loop-i.invariant.2 ∙ sym (word-down c.args.s.now c.args.n c.loop-i.i (omega arith) c.loop-i.invariant.0 (omega (arith, c.requires.n_in_bounds))),
 )
