@@ -1,4 +1,5 @@
 -- Asking what was read of a text answers as the text does.
+use Rattle.std.specs.Prelude.{if◌then◌else◌}
 use Prim.Native.Nat.{ℕ, ◌+◌, ◌≤◌, ◌<◌, min}
 use native.Mathlib.Omega.{arith}
 use native.Mathlib.Nat.{min-le_left}
@@ -8,7 +9,7 @@ use mathlib.Core.Bool.{Bool, true, false, not, ◌||◌, ◌&&◌, and-false, an
 use lib.ListN.{length}
 use lib.Dec.{ltb}
 use borrow.Author.Tests.{eq-eqb, le-ltb, ltb-false, ne_eqb}
-use Rattle.scan.specs.Bytes.{every, same, if◌then◌else◌}
+use Rattle.scan.specs.Bytes.{every, same}
 use Rattle.scan.proofs.Bools.{and_left, and_right}
 use Rattle.text.specs.Reading.{Reading, Read, Refused, nowhere, refusal_at}
 use Rattle.family.specs.Members.{those}

@@ -1,4 +1,5 @@
 -- Which records match a request: of a text that was read those whose rule matches, in document 01's words; and they fix the answer.
+use Rattle.std.specs.Prelude.{if◌then◌else◌}
 use Prim.Native.Nat.{ℕ, zero, suc, ◌+◌, ◌≤◌, min}
 use mathlib.Core.Path.{◌≡◌, refl, sym, ap, ap₂, subst, ◌∙◌}
 use mathlib.Core.List.{List, [], ◌∷◌, ◌++◌, map, map-append}
@@ -6,7 +7,7 @@ use mathlib.Core.Bool.{Bool, true, false, not, ◌&&◌}
 use lib.ListN.{length}
 use lib.Dec.{eqb, ltb}
 use borrow.Author.Tests.{le-ltb}
-use Rattle.scan.specs.Bytes.{every, if◌then◌else◌}
+use Rattle.scan.specs.Bytes.{every}
 use Rattle.scan.proofs.Bools.{and_left, and_right}
 use Rattle.text.specs.Reading.{Read, nowhere}
 use Rattle.request.specs.Requests.{bad_asked, bad_path}

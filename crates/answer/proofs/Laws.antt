@@ -1,4 +1,5 @@
 -- Laws of the parts of an answer.
+use Rattle.std.specs.Prelude.{if◌then◌else◌}
 use Prim.Native.Nat.{ℕ, suc, ◌+◌, ◌-◌, ◌<◌, ◌≤◌, min}
 use mathlib.Core.Path.{◌≡◌, refl, sym, ap, ap₂, ◌∙◌, subst}
 use mathlib.Core.List.{List, [], ◌∷◌, ◌++◌, append_assoc}
@@ -10,7 +11,7 @@ use lib.Dec.{eqb}
 use lib.ListN.{length, replicate, set, get_or, take, length-take}
 use lib.Seq.{set_at, take-suc, take_all}
 use borrow.Author.Tests.{eqb-true}
-use Rattle.scan.specs.Bytes.{every, if◌then◌else◌}
+use Rattle.scan.specs.Bytes.{every}
 use Rattle.scan.proofs.Bools.{and_left}
 use Rattle.perms.specs.Sets.{has, set_of, perms, unite, without, within}
 use Rattle.perms.specs.declared.Perms.{Perms}

@@ -1,6 +1,5 @@
 -- The answer that findings give, and refusals.
-use Rattle.std.specs.Prelude.{ℕ, ◌-◌, min, List, [], ◌++◌, Bool, true, false, not, ◌||◌, ◌&&◌, length, replicate, take, eqb}
-use Rattle.scan.specs.Bytes.{if◌then◌else◌}
+use Rattle.std.specs.Prelude.{ℕ, ◌-◌, min, List, [], ◌++◌, Bool, true, false, not, ◌||◌, ◌&&◌, length, replicate, take, eqb, if◌then◌else◌}
 use Rattle.perms.specs.Sets.{has, set_of, perms}
 use Rattle.modes.specs.declared.Execute.{Execute}
 use Rattle.modes.specs.declared.Execute.TheVariants.{NotAsked, Denied, Conflict, ByMode}

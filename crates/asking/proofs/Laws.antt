@@ -1,4 +1,5 @@
 -- What is gathered record by record is the findings of the rules that count, and the answer in the end is the one defined.
+use Rattle.std.specs.Prelude.{if◌then◌else◌}
 use Prim.Native.Nat.{ℕ, zero, suc, ◌+◌, ◌*◌, ◌-◌, min}
 use mathlib.Core.Path.{◌≡◌, refl, sym, ap, ap₂, ◌∙◌}
 use mathlib.Core.List.{List, [], ◌∷◌, ◌++◌, map, append_assoc, append-nil}
@@ -8,7 +9,7 @@ use lib.ListN.{length, get_or, take, drop}
 use lib.Seq.{get_or-drop}
 use lib.Dec.{eqb, ltb, leb}
 use borrow.Author.Tests.{eqb-true, ne_eqb, ltb-true, ltb-false, le-leb}
-use Rattle.scan.specs.Bytes.{same, some, span, if◌then◌else◌}
+use Rattle.scan.specs.Bytes.{same, some, span}
 use Rattle.scan.proofs.Bools.{and_left}
 use Rattle.codes.proofs.Laws.{take-least}
 use Rattle.text.specs.Reading.{nowhere}

@@ -1,6 +1,6 @@
 -- The answer of what was read once, to a profile name and a request.
-use Rattle.std.specs.Prelude.{ℕ, ◌+◌, List, [], ◌∷◌, map, Bool, true, false, not, ◌&&◌, length, drop, eqb, ltb, leb}
-use Rattle.scan.specs.Bytes.{same, if◌then◌else◌}
+use Rattle.std.specs.Prelude.{ℕ, ◌+◌, List, [], ◌∷◌, map, Bool, true, false, not, ◌&&◌, length, drop, eqb, ltb, leb, if◌then◌else◌}
+use Rattle.scan.specs.Bytes.{same}
 use Rattle.text.specs.Reading.{nowhere}
 use Rattle.request.specs.Requests.{bad_asked, bad_path}
 use Rattle.names.specs.Names.{name_form}

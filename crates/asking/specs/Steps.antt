@@ -1,6 +1,5 @@
 -- Asking as the code does it: what is known before the walk, and what a record adds.
-use Rattle.std.specs.Prelude.{ℕ, zero, suc, min, List, [], ◌∷◌, Bool, true, not, ◌||◌, ◌&&◌, length, get_or, drop, eqb, ltb}
-use Rattle.scan.specs.Bytes.{if◌then◌else◌}
+use Rattle.std.specs.Prelude.{ℕ, zero, suc, min, List, [], ◌∷◌, Bool, true, not, ◌||◌, ◌&&◌, length, get_or, drop, eqb, ltb, if◌then◌else◌}
 use Rattle.text.specs.Reading.{nowhere}
 use Rattle.perms.specs.declared.Perms.{Perms}
 use Rattle.request.specs.Requests.{bad_asked, bad_path}

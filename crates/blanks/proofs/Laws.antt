@@ -1,4 +1,5 @@
 -- What the definition of blanks and comments says at a place of a text.
+use Rattle.std.specs.Prelude.{if◌then◌else◌}
 use Prim.Native.Nat.{ℕ, zero, suc, ◌+◌, ◌≤◌, ◌<◌, ◌-◌}
 use mathlib.Core.Path.{◌≡◌, refl, ap}
 use mathlib.Core.List.{List, [], ◌∷◌}
@@ -9,7 +10,7 @@ use lib.Dec.{eqb}
 use native.Mathlib.Numerals.{add-one}
 use native.Mathlib.Omega.{arith}
 use borrow.Author.Tests.{ne_eqb}
-use Rattle.scan.specs.Bytes.{run, if◌then◌else◌}
+use Rattle.scan.specs.Bytes.{run}
 use Rattle.scan.proofs.Laws.{same-eq, run-le}
 use Rattle.blanks.specs.Blanks.{blank, hash, includes, in_comment, skip, standing, stands_at}
 

@@ -1,7 +1,7 @@
 -- Blanks and comments, and what stands next at a place of a text.
-use Rattle.std.specs.Prelude.{ℕ, zero, suc, ◌+◌, List, [], ◌∷◌, Bool, not, ◌||◌, ◌&&◌, take, drop, eqb}
+use Rattle.std.specs.Prelude.{ℕ, zero, suc, ◌+◌, List, [], ◌∷◌, Bool, not, ◌||◌, ◌&&◌, take, drop, eqb, if◌then◌else◌}
 use Prim.Native.Char.{code}
-use Rattle.scan.specs.Bytes.{bytes, run, same, starts_with, if◌then◌else◌}
+use Rattle.scan.specs.Bytes.{bytes, run, same, starts_with}
 
 abbrev pub nul : ℕ
 nul = code "\0"

@@ -1,4 +1,5 @@
 -- The ranges of a class, read by place.
+use Rattle.std.specs.Prelude.{if◌then◌else◌}
 use mathlib.Core.Path.{◌≡◌, refl, sym, ap, ◌∙◌}
 use mathlib.Core.Bool.{Bool, true, false, not, ◌&&◌, and-true, and-false, false≢true}
 use mathlib.Core.List.{List, [], ◌∷◌}
@@ -10,7 +11,7 @@ use lib.ListN.{length, drop, get_or, length-drop, drop_of_length-le}
 use lib.Seq.{drop-cons, drop-drop, get_or-drop}
 use lib.Dec.{eqb, ltb}
 use borrow.Author.Tests.{ltb-true, ltb-false, lt-ltb, le-ltb}
-use Rattle.scan.specs.Bytes.{begins, between, some, every, if◌then◌else◌}
+use Rattle.scan.specs.Bytes.{begins, between, some, every}
 use Rattle.class.specs.Class.{Range, ranges, negated, members, listed, good_range, good_class}
 use Rattle.class.specs.Places.{start_of, pair_at, high_at, next_at, range_at}
 

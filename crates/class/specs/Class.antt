@@ -1,7 +1,7 @@
 -- Classes of a pattern, by what stands in their brackets.
-use Rattle.std.specs.Prelude.{ℕ, zero, suc, List, [], ◌∷◌, Bool, true, false, not, ◌||◌, ◌&&◌, length, get_or, eqb, leb, ltb}
+use Rattle.std.specs.Prelude.{ℕ, zero, suc, List, [], ◌∷◌, Bool, true, false, not, ◌||◌, ◌&&◌, length, get_or, eqb, leb, ltb, if◌then◌else◌}
 use Prim.Native.Char.{code}
-use Rattle.scan.specs.Bytes.{begins, between, digit, every, letter, some, if◌then◌else◌}
+use Rattle.scan.specs.Bytes.{begins, between, digit, every, letter, some}
 
 -- the ranges of a class's members after the first k bytes; a byte by itself is a range too
 pub record Range : Type 0 where

@@ -1,7 +1,7 @@
 -- The ranges of a class by their places.
-use Rattle.std.specs.Prelude.{ℕ, ◌+◌, List, Bool, ◌&&◌, length, drop, get_or, ltb}
+use Rattle.std.specs.Prelude.{ℕ, ◌+◌, List, Bool, ◌&&◌, length, drop, get_or, ltb, if◌then◌else◌}
 use Prim.Native.Char.{code}
-use Rattle.scan.specs.Bytes.{begins, if◌then◌else◌}
+use Rattle.scan.specs.Bytes.{begins}
 use Rattle.class.specs.Class.{Range, negated}
 
 -- where the members start

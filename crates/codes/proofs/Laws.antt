@@ -1,4 +1,5 @@
 -- The laws of codes: which are literals, and slashes joined in place.
+use Rattle.std.specs.Prelude.{if◌then◌else◌}
 use mathlib.Core.Path.{◌≡◌, refl, sym, ap, ap₂, ◌∙◌}
 use mathlib.Core.Bool.{Bool, true, false, ◌&&◌, ◌||◌, false≢true}
 use mathlib.Core.List.{List, [], ◌∷◌, ◌++◌, append_assoc, append-nil, map}
@@ -11,7 +12,7 @@ use lib.ListN.{length, take, drop, get_or, set, length-take, drop_of_length-le}
 use lib.Seq.{take_all, drop-cons, drop-drop, get_or-take, length-take-le, slice_empty, take-set-le, drop-set-lt, take-suc-set}
 use lib.Dec.{eqb, ltb, leb}
 use borrow.Author.Tests.{lt-ltb, le-ltb, ltb-true, leb-true, leb-false}
-use Rattle.scan.specs.Bytes.{every, if◌then◌else◌}
+use Rattle.scan.specs.Bytes.{every}
 use Rattle.scan.proofs.Bools.{or_right}
 use Rattle.pattern.specs.Pieces.{Piece, Byte, One, Star, StarStar, Class}
 use Rattle.pattern.specs.Expansions.{is_literal, joined_after}

@@ -1,7 +1,6 @@
 -- The first literals of an expansion, held to a path piece by piece.
-use Rattle.std.specs.Prelude.{ℕ, suc, List, [], ◌∷◌, Bool, true, false, ◌&&◌, ◌||◌, length, get_or, eqb, ltb}
+use Rattle.std.specs.Prelude.{ℕ, suc, List, [], ◌∷◌, Bool, true, false, ◌&&◌, ◌||◌, length, get_or, eqb, ltb, if◌then◌else◌}
 use Prim.Native.Char.{code}
-use Rattle.scan.specs.Bytes.{if◌then◌else◌}
 use Rattle.pattern.specs.Pieces.{Piece, Byte, One, Star, StarStar, Class}
 use Rattle.codes.specs.declared.Held.{Held}
 

@@ -1,8 +1,8 @@
 // The codes of an expansion, before it is held to a path.
 #![tactic(auto)]
 
-ghost use Rattle.std.specs.Prelude.{◌≡◌, List, map, ℕ, take, drop};
-ghost use Rattle.scan.specs.Bytes.{every, if◌then◌else◌};
+ghost use Rattle.std.specs.Prelude.{◌≡◌, List, map, ℕ, take, drop, if◌then◌else◌};
+ghost use Rattle.scan.specs.Bytes.{every};
 ghost use Rattle.pattern.specs.Expansions.{is_literal};
 ghost use Rattle.pattern.specs.Codes.{decode};
 ghost use Rattle.codes.specs.Joins.{Joins};

@@ -1,4 +1,5 @@
 -- What is told of a pattern is so: a miss is matched by no expansion, and a hit is a pattern of one expansion, which matches.
+use Rattle.std.specs.Prelude.{if◌then◌else◌}
 use Prim.Native.Nat.{ℕ, zero, suc, ◌+◌, ◌-◌, ◌≤◌}
 use Prim.Native.Char.{code}
 use mathlib.Core.Path.{◌≡◌, refl, sym, ap, ap₂, ◌∙◌}
@@ -8,7 +9,7 @@ use native.Mathlib.Omega.{arith}
 use lib.ListN.{length, take, drop, length-drop, length-map}
 use lib.Dec.{eqb, ltb}
 use borrow.Author.Tests.{eq-eqb, ne_eqb, eqb-true, eqb-false, ltb-false, le-ltb, not-true}
-use Rattle.scan.specs.Bytes.{begins, every, some, is_empty, if◌then◌else◌}
+use Rattle.scan.specs.Bytes.{begins, every, some, is_empty}
 use Rattle.scan.proofs.Bools.{iff, and_left, and_right}
 use Rattle.class.specs.Class.{in_class, good_class}
 use Rattle.pattern.specs.Pieces.{Piece, Byte, One as Any, Star, StarStar, Class, Is, starting, part, extra, up_to, class_part}

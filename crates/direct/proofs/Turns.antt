@@ -1,4 +1,5 @@
 -- A turn of each loop, place by place.
+use Rattle.std.specs.Prelude.{if◌then◌else◌}
 use mathlib.Core.Path.{◌≡◌, refl}
 use mathlib.Core.Bool.{Bool, true, false, not, ◌&&◌, ◌||◌}
 use mathlib.Core.List.{List, [], ◌∷◌}
@@ -10,7 +11,7 @@ use lib.ListN.{length, take, drop, get_or, drop_of_length-le}
 use lib.Seq.{drop-drop}
 use lib.Dec.{eqb}
 use borrow.Author.Tests.{eq-eqb, ne_eqb, lt-ltb, le-ltb}
-use Rattle.scan.specs.Bytes.{begins, every, some, holds, is_empty, span, if◌then◌else◌}
+use Rattle.scan.specs.Bytes.{begins, every, some, holds, is_empty, span}
 use Rattle.scan.proofs.Laws.{no_length}
 use Rattle.class.specs.Class.{in_class, good_class}
 use Rattle.pattern.specs.Pieces.{up_to}

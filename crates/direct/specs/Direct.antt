@@ -1,8 +1,8 @@
 -- What a pattern says of a path as it is written, where it has no choices: pieces of one byte each, then one star or none, then
 -- literals and ? up to its end.
-use Rattle.std.specs.Prelude.{ℕ, zero, suc, ◌-◌, List, [], ◌∷◌, Bool, true, false, not, ◌&&◌, ◌||◌, length, take, drop, eqb, ltb}
+use Rattle.std.specs.Prelude.{ℕ, zero, suc, ◌-◌, List, [], ◌∷◌, Bool, true, false, not, ◌&&◌, ◌||◌, length, take, drop, eqb, ltb, if◌then◌else◌}
 use Prim.Native.Char.{code}
-use Rattle.scan.specs.Bytes.{begins, every, is_empty, if◌then◌else◌}
+use Rattle.scan.specs.Bytes.{begins, every, is_empty}
 use Rattle.class.specs.Class.{in_class, good_class}
 use Rattle.pattern.specs.Pieces.{up_to}
 use Rattle.matcher.specs.Match.{no_slash}

@@ -1,8 +1,7 @@
 // A pattern without choices against a path, as it is written: nothing is expanded, measured or cleared.
 #![tactic(auto)]
 
-ghost use Rattle.std.specs.Prelude.{◌≡◌, false, ◌≤◌, eqb, length, drop};
-ghost use Rattle.scan.specs.Bytes.{if◌then◌else◌};
+ghost use Rattle.std.specs.Prelude.{◌≡◌, false, ◌≤◌, eqb, length, drop, if◌then◌else◌};
 ghost use Rattle.pattern.specs.Pieces.{up_to};
 ghost use Rattle.matcher.specs.Match.{no_slash};
 ghost use Rattle.direct.specs.declared.Outcome.TheVariants.{Miss};

@@ -1,6 +1,5 @@
 -- What is still to come of the rules that a head tells, as the code reads them one by one; and what judging a text does to a head.
-use Rattle.std.specs.Prelude.{ℕ, ◌+◌, ◌*◌, ◌-◌, ◌≤◌, min, ◌≡◌, List, [], ◌∷◌, ◌++◌, map, true, false, length, get_or, drop, ltb}
-use Rattle.scan.specs.Bytes.{if◌then◌else◌}
+use Rattle.std.specs.Prelude.{ℕ, ◌+◌, ◌*◌, ◌-◌, ◌≤◌, min, ◌≡◌, List, [], ◌∷◌, ◌++◌, map, true, false, length, get_or, drop, ltb, if◌then◌else◌}
 use Rattle.text.specs.Places.{place}
 use Rattle.text.specs.declared.Refusal.{Refusal}
 use Rattle.pattern.specs.Table.{env}

@@ -1,6 +1,5 @@
 -- What a table of rule records and its head say over the text, and what reading fills them with.
-use Rattle.std.specs.Prelude.{ℕ, zero, suc, ◌+◌, ◌*◌, min, List, [], ◌∷◌, ◌++◌, map, length, get_or, take, drop, ltb}
-use Rattle.scan.specs.Bytes.{if◌then◌else◌}
+use Rattle.std.specs.Prelude.{ℕ, zero, suc, ◌+◌, ◌*◌, min, List, [], ◌∷◌, ◌++◌, map, length, get_or, take, drop, ltb, if◌then◌else◌}
 use Rattle.text.specs.Reading.{Reading, Read, Refused, nowhere, refusal_at}
 use Rattle.text.specs.declared.Refusal.{Refusal}
 use Rattle.pattern.specs.Expansions.{Variable}

@@ -1,6 +1,5 @@
 -- What reading does to a head and a table.
-use Rattle.std.specs.Prelude.{ℕ, ◌≡◌, List, [], ◌||◌, length, get_or, drop}
-use Rattle.scan.specs.Bytes.{if◌then◌else◌}
+use Rattle.std.specs.Prelude.{ℕ, ◌≡◌, List, [], ◌||◌, length, get_or, drop, if◌then◌else◌}
 use Rattle.entries.specs.Entries.{Policy, Told, Short, Rejected, Accepted, numbers_in, numbers_of, policy_in, read_of}
 use Rattle.entries.specs.declared.Record.{Record}
 use Rattle.entries.specs.declared.Reading.{Reading}

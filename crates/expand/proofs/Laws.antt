@@ -1,4 +1,5 @@
 -- An expansion written piece by piece, and one chosen by its number.
+use Rattle.std.specs.Prelude.{if◌then◌else◌}
 use Prim.Native.Nat.{ℕ, zero, suc, ◌+◌, ◌*◌, ◌-◌, ◌≤◌, ◌<◌, min}
 use Prim.Native.Char.{code}
 use mathlib.Core.Path.{◌≡◌, refl, sym, ap, ap₂, ◌∙◌}
@@ -11,7 +12,7 @@ use borrow.Author.Tests.{le-leb, lt-leb, lt-ltb, le-ltb}
 use native.Mathlib.Nat.{div-one}
 use native.Mathlib.Numerals.{add-one}
 use native.Mathlib.Omega.{arith}
-use Rattle.scan.specs.Bytes.{run, span, if◌then◌else◌}
+use Rattle.scan.specs.Bytes.{run, span}
 use Rattle.pattern.specs.Pieces.{Piece, Byte, Part, part, parts}
 use Rattle.pattern.specs.Items.{Item, items, Single, Among, before, item, is_closed, alternatives, body}
 use Rattle.pattern.specs.Places.{part_at, part_of, item_at, item_of}

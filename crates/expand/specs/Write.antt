@@ -1,8 +1,7 @@
 -- What is written of an expansion to a buffer, and what is asked of who writes it.
-use Rattle.std.specs.Prelude.{ℕ, ◌≤◌, ◌≡◌, List, [], ◌++◌, map, Bool, length, take, leb}
+use Rattle.std.specs.Prelude.{ℕ, ◌≤◌, ◌≡◌, List, [], ◌++◌, map, Bool, length, take, leb, if◌then◌else◌}
 use Rattle.pattern.specs.Pieces.{Piece}
 use Rattle.pattern.specs.Codes.{decode}
-use Rattle.scan.specs.Bytes.{if◌then◌else◌}
 use Rattle.codes.specs.Held.{differs}
 use Rattle.expand.specs.declared.Draft.{Draft}
 

@@ -1,8 +1,8 @@
 // One expansion of a pattern, by its number, written as codes to a lent buffer.
 #![tactic(auto)]
 
-ghost use Rattle.std.specs.Prelude.{◌≡◌, List, ◌∷◌, [], map, ℕ, ◌+◌, ◌≤◌, ◌<◌, length};
-ghost use Rattle.scan.specs.Bytes.{span, if◌then◌else◌};
+ghost use Rattle.std.specs.Prelude.{◌≡◌, List, ◌∷◌, [], map, ℕ, ◌+◌, ◌≤◌, ◌<◌, length, if◌then◌else◌};
+ghost use Rattle.scan.specs.Bytes.{span};
 ghost use Rattle.pattern.specs.Pieces.{Byte};
 ghost use Rattle.pattern.specs.Items.{alternatives};
 ghost use Rattle.pattern.specs.Places.{item_at};

@@ -1,9 +1,10 @@
 -- Equal parts give the same: granted, recorded and what is chosen.
+use Rattle.std.specs.Prelude.{if◌then◌else◌}
 use mathlib.Core.Path.{◌≡◌, refl, sym, ap, ap₂, ◌∙◌, subst}
 use mathlib.Core.List.{List, [], ◌∷◌}
 use mathlib.Core.Bool.{Bool, true, false, not, ◌&&◌, false≢true}
 use mathlib.Core.Logic.{⊎_elim}
-use Rattle.scan.specs.Bytes.{some, every, if◌then◌else◌}
+use Rattle.scan.specs.Bytes.{some, every}
 use Rattle.scan.proofs.Bools.{and_left, and_right, or_cases, or_right}
 use Rattle.family.specs.Members.{SameMembers, preferred, Choice, Single, Several, choice, is_single}
 use Rattle.family.specs.Families.{Part, Equal, choice_of, granted, granted_one, recorded}

@@ -1,11 +1,12 @@
 -- Demand 3 on rule lists, once for every family: the same rules in any order, deny rules added, allow rules added, rules that hit
 -- nothing.
+use Rattle.std.specs.Prelude.{if◌then◌else◌}
 use mathlib.Core.Path.{◌≡◌, refl, sym, ap, ap₂, ◌∙◌}
 use mathlib.Core.List.{List, [], ◌∷◌}
 use mathlib.Core.Bool.{Bool, true, false, not, ◌||◌, ◌&&◌, false≢true}
 use mathlib.Core.Logic.{⊎_elim, ◌⊎◌, inl, inr}
 use borrow.Author.Tests.{not-true}
-use Rattle.scan.specs.Bytes.{some, every, if◌then◌else◌}
+use Rattle.scan.specs.Bytes.{some, every}
 use Rattle.scan.proofs.Bools.{and_left, and_right, or_cases, or_right}
 use Rattle.family.specs.Members.{those, all, preferred, Single, Several, choice, is_single, is_several}
 use Rattle.family.specs.Families.{Family, Part, allows, gathered, carrying, part, Equal, SameRules, Added, choice_of, granted, granted_one}

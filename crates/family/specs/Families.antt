@@ -1,7 +1,7 @@
 -- What is found of one permission, for every kind of rule.
-use Rattle.std.specs.Prelude.{◌≡◌, Bool, true, false, not, ◌||◌, ◌&&◌}
+use Rattle.std.specs.Prelude.{◌≡◌, Bool, true, false, not, ◌||◌, ◌&&◌, if◌then◌else◌}
 use mathlib.Core.List.{List, [], ◌∷◌, ◌++◌, Memᴰ}
-use Rattle.scan.specs.Bytes.{some, if◌then◌else◌}
+use Rattle.scan.specs.Bytes.{some}
 use Rattle.family.specs.Members.{those, all, SameMembers, preferred, Choice, choice, is_single}
 
 -- one kind of rule under one request, as one permission sees it; R: its rules, M: what they show besides

@@ -1,6 +1,6 @@
 -- Lists as sets: the elements of a kind, what they show, the same members, and whether there is one.
-use Rattle.std.specs.Prelude.{◌≡◌, List, [], ◌∷◌, ◌++◌, Bool, true, false}
-use Rattle.scan.specs.Bytes.{every, some, if◌then◌else◌}
+use Rattle.std.specs.Prelude.{◌≡◌, List, [], ◌∷◌, ◌++◌, Bool, true, false, if◌then◌else◌}
+use Rattle.scan.specs.Bytes.{every, some}
 
 -- the elements of a list of which p holds
 unfoldable pub those : {R : Type 0} → (R → Bool) → List R → List R

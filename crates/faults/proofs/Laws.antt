@@ -1,4 +1,5 @@
 -- The faults of a value and of a pattern, in their order.
+use Rattle.std.specs.Prelude.{if◌then◌else◌}
 use Prim.Native.Nat.{ℕ, ◌≤◌, ◌<◌}
 use mathlib.Core.Path.{◌≡◌, refl, sym, ap, ◌∙◌}
 use mathlib.Core.List.{List, [], ◌∷◌}
@@ -6,7 +7,7 @@ use mathlib.Core.Bool.{Bool, true, false}
 use lib.ListN.{length}
 use borrow.Author.Tests.{lt-ltb, le-ltb}
 use native.Mathlib.Omega.{arith}
-use Rattle.scan.specs.Bytes.{is_empty, if◌then◌else◌}
+use Rattle.scan.specs.Bytes.{is_empty}
 use Rattle.pattern.specs.Items.{value_form, value_names, pattern_form, pattern_names}
 use Rattle.pattern.specs.Expansions.{Variable, is_set}
 use Rattle.pattern.specs.Faults.{too_long, value_fault, pattern_fault}

@@ -1,6 +1,5 @@
 -- What is refused of a pattern by its size, and of a pattern under a table of sizes, whatever the table holds.
-use Rattle.std.specs.Prelude.{ℕ, List}
-use Rattle.scan.specs.Bytes.{if◌then◌else◌}
+use Rattle.std.specs.Prelude.{ℕ, List, if◌then◌else◌}
 use Rattle.pattern.specs.Items.{pattern_form, pattern_names}
 use Rattle.pattern.specs.Expansions.{is_set}
 use Rattle.pattern.specs.Faults.{too_long}

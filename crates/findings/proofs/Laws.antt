@@ -1,9 +1,10 @@
 -- One transition more in a set of transitions.
+use Rattle.std.specs.Prelude.{if◌then◌else◌}
 use Prim.Native.Nat.{ℕ}
 use mathlib.Core.Path.{◌≡◌, refl, sym, ap, ◌∙◌}
 use mathlib.Core.List.{List, [], ◌∷◌, ◌++◌, append-nil}
 use mathlib.Core.Bool.{Bool, true, false, ◌&&◌, and-true, and_assoc}
-use Rattle.scan.specs.Bytes.{every, if◌then◌else◌}
+use Rattle.scan.specs.Bytes.{every}
 use Rattle.modes.specs.declared.Transition.{Transition}
 use Rattle.modes.specs.declared.Transition.TheVariants.{Absent, ByMode}
 use Rattle.family.specs.Members.{Choice, Single, Several, choice}

@@ -1,7 +1,6 @@
 -- Findings as they are gathered rule by rule: of a set of transitions only whether it has no member, one or more.
-use Rattle.std.specs.Prelude.{ℕ, ◌≡◌, List, Bool, not}
+use Rattle.std.specs.Prelude.{ℕ, ◌≡◌, List, Bool, not, if◌then◌else◌}
 use Rattle.std.specs.Int.Bits.{bit_or}
-use Rattle.scan.specs.Bytes.{if◌then◌else◌}
 use Rattle.perms.specs.declared.Perms.{Perms}
 use Rattle.modes.specs.declared.Transition.{Transition}
 use Rattle.modes.specs.declared.Transition.TheVariants.{Absent, ByMode}

@@ -1,8 +1,7 @@
 // The findings of rules on a request, gathered one matching rule at a time.
 #![tactic(auto)]
 
-ghost use Rattle.std.specs.Prelude.{◌≡◌};
-ghost use Rattle.scan.specs.Bytes.{if◌then◌else◌};
+ghost use Rattle.std.specs.Prelude.{◌≡◌, if◌then◌else◌};
 ghost use Rattle.rule.specs.Places.{rule_of};
 ghost use Rattle.text.specs.Places.{span_of};
 ghost use Rattle.findings.specs.Findings.{same_move};

@@ -1,4 +1,5 @@
 -- What a head tells hangs on its 1256 numbers alone.
+use Rattle.std.specs.Prelude.{if◌then◌else◌}
 use Prim.Native.Nat.{ℕ, zero, suc, ◌+◌, ◌*◌, ◌-◌, ◌≤◌, ◌<◌, min}
 use mathlib.Core.Path.{◌≡◌, refl, ap, ap₂, ◌∙◌}
 use mathlib.Core.List.{List, [], ◌∷◌, ◌++◌}
@@ -8,7 +9,7 @@ use borrow.Author.Tests.{ltb-true}
 use lib.ListN.{get_or, drop}
 use lib.Seq.{get_or-drop}
 use lib.Dec.{ltb}
-use Rattle.scan.specs.Bytes.{span, if◌then◌else◌}
+use Rattle.scan.specs.Bytes.{span}
 use Rattle.pattern.specs.Expansions.{Variable}
 use Rattle.pattern.specs.Table.{bytes_at, env, values_from, variables}
 use Rattle.rule.specs.Rules.{Rule}

@@ -1,4 +1,5 @@
 -- Asking record by record from memory: what is still to come from a place on makes the whole answer.
+use Rattle.std.specs.Prelude.{if◌then◌else◌}
 use Prim.Native.Nat.{ℕ, zero, suc, ◌+◌, ◌*◌, ◌-◌, ◌≤◌, ◌<◌, min}
 use mathlib.Core.Path.{◌≡◌, refl, sym, ap, ap₂, ◌∙◌}
 use mathlib.Core.List.{List, [], ◌∷◌, map}
@@ -6,7 +7,6 @@ use mathlib.Core.Bool.{Bool, true, false}
 use native.Mathlib.Omega.{arith}
 use lib.ListN.{length, get_or, take, drop}
 use lib.Dec.{eqb}
-use Rattle.scan.specs.Bytes.{if◌then◌else◌}
 use Rattle.perms.specs.declared.Perms.{Perms}
 use Rattle.codes.proofs.Laws.{take-least}
 use Rattle.pattern.specs.Expansions.{Variable}

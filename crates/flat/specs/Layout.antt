@@ -1,7 +1,6 @@
 -- A table of rule records as plain numbers: a head of 1256 numbers, and twelve numbers for each record.
-use Rattle.std.specs.Prelude.{ℕ, zero, suc, ◌+◌, ◌*◌, ◌-◌, ◌/◌, ◌%◌, List, [], ◌∷◌, Bool, not, length, get_or, eqb}
+use Rattle.std.specs.Prelude.{ℕ, zero, suc, ◌+◌, ◌*◌, ◌-◌, ◌/◌, ◌%◌, List, [], ◌∷◌, Bool, not, length, get_or, eqb, if◌then◌else◌}
 use Rattle.std.specs.Int.Bits.{bit_and}
-use Rattle.scan.specs.Bytes.{if◌then◌else◌}
 use Rattle.perms.specs.Sets.{perms}
 use Rattle.modes.specs.Modes.{kind_number, fallback_number}
 use Rattle.modes.specs.declared.Kind.{Kind}

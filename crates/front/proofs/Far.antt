@@ -1,4 +1,5 @@
 -- Bytes that are passed over as the path's keep what a pattern's front does to it.
+use Rattle.std.specs.Prelude.{if◌then◌else◌}
 use mathlib.Core.Path.{◌≡◌, refl, sym, subst, ◌∙◌}
 use mathlib.Core.Bool.{Bool, true, false, not, ◌&&◌, ◌||◌}
 use mathlib.Core.List.{List, [], ◌∷◌}
@@ -9,7 +10,7 @@ use native.Mathlib.Omega.{arith}
 use lib.ListN.{length, take, drop, get_or, length-drop}
 use lib.Dec.{eqb, ltb}
 use borrow.Author.Tests.{eqb-true, not-false, ltb-true, ltb-false}
-use Rattle.scan.specs.Bytes.{if◌then◌else◌, span}
+use Rattle.scan.specs.Bytes.{span}
 use Rattle.scan.proofs.Bools.{neither_left, neither_right}
 use Rattle.scan.proofs.Laws.{span_rest}
 use Rattle.pattern.specs.Literals.{special}

@@ -1,4 +1,5 @@
 -- A path is matched where it begins with a pattern's front, and what follows it is matched by what follows the front.
+use Rattle.std.specs.Prelude.{if◌then◌else◌}
 use mathlib.Core.Path.{◌≡◌, refl, sym, ap, ap₂, ◌∙◌}
 use mathlib.Core.List.{List, [], ◌∷◌, map}
 use mathlib.Core.Bool.{Bool, true, false, not, ◌&&◌, ◌||◌, and-false}
@@ -7,7 +8,7 @@ use Prim.Native.Char.{code}
 use lib.ListN.{length, drop}
 use lib.Dec.{eqb}
 use borrow.Author.Tests.{eq-eqb, ne_eqb, eqb-true, eqb-false, not-true}
-use Rattle.scan.specs.Bytes.{every, some, if◌then◌else◌}
+use Rattle.scan.specs.Bytes.{every, some}
 use Rattle.scan.proofs.Bools.{and_left, and_right}
 use Rattle.pattern.specs.Pieces.{Piece, Byte}
 use Rattle.pattern.specs.Expansions.{Variable, across, listing, of_items, of_name, expansions, is_slash, joined_after, is_literal}

@@ -1,4 +1,5 @@
 -- A turn of the loop that holds a pattern's front to the path, place by place.
+use Rattle.std.specs.Prelude.{if◌then◌else◌}
 use mathlib.Core.Path.{◌≡◌, refl, sym}
 use mathlib.Core.Bool.{Bool, true, false}
 use mathlib.Core.List.{List, [], ◌∷◌}
@@ -11,7 +12,6 @@ use lib.ListN.{length, drop, get_or, drop_of_length-le}
 use lib.Seq.{drop-cons}
 use lib.Dec.{eqb}
 use borrow.Author.Tests.{eq-eqb, ne_eqb}
-use Rattle.scan.specs.Bytes.{if◌then◌else◌}
 use Rattle.front.specs.Front.{beginning, plain_after, front_after, slash_after, lead_of}
 use Rattle.front.specs.declared.Led.{Led}
 

@@ -1,7 +1,7 @@
 -- The front of a pattern: its first bytes that are literals whatever stands behind them.
-use Rattle.std.specs.Prelude.{ℕ, ◌+◌, ◌≡◌, List, [], ◌∷◌, Bool, true, false, not, ◌&&◌, length, get_or, eqb}
+use Rattle.std.specs.Prelude.{ℕ, ◌+◌, ◌≡◌, List, [], ◌∷◌, Bool, true, false, not, ◌&&◌, length, get_or, eqb, if◌then◌else◌}
 use Prim.Native.Char.{code}
-use Rattle.scan.specs.Bytes.{every, some, if◌then◌else◌}
+use Rattle.scan.specs.Bytes.{every, some}
 use Rattle.pattern.specs.Expansions.{Variable, expansions, is_literal, joined_after}
 use Rattle.pattern.specs.Literals.{special, ordinary}
 use Rattle.matcher.specs.Match.{matches}

@@ -1,4 +1,5 @@
 -- A pattern that is told of as it is written, behind its front.
+use Rattle.std.specs.Prelude.{if◌then◌else◌}
 use Prim.Native.Nat.{ℕ, ◌+◌, ◌-◌, ◌≤◌, ◌<◌}
 use Prim.Native.Char.{code}
 use mathlib.Core.Path.{◌≡◌, sym, ap, ◌∙◌}
@@ -8,7 +9,6 @@ use native.Mathlib.Omega.{arith}
 use lib.ListN.{length, get_or, drop, length-append, length-map, length-drop}
 use lib.Dec.{eqb}
 use borrow.Author.Tests.{eq-eqb}
-use Rattle.scan.specs.Bytes.{if◌then◌else◌}
 use Rattle.scan.proofs.Bools.{and_left, and_right}
 use Rattle.pattern.specs.Pieces.{Piece, Byte}
 use Rattle.pattern.specs.Items.{items}

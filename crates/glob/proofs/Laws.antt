@@ -1,4 +1,5 @@
 -- Every expansion tried by its number; a pattern without fault under a right table of sizes.
+use Rattle.std.specs.Prelude.{if◌then◌else◌}
 use Prim.Native.Nat.{ℕ, zero, suc, ◌+◌, ◌-◌, ◌≤◌, ◌<◌}
 use Prim.Native.Char.{code}
 use mathlib.Core.Path.{◌≡◌, refl, sym, ap, ap₂, ◌∙◌}
@@ -12,7 +13,7 @@ use lib.ListN.{length, get_or, take, drop, length-drop, length-map, length-take,
 use lib.Seq.{take_all, take-take, drop-cons}
 use lib.Dec.{eqb, ltb}
 use borrow.Author.Tests.{eq-eqb, ne_eqb, eqb-true, eqb-false, ltb-true, ltb-false, le-leb, leb-true, not-true}
-use Rattle.scan.specs.Bytes.{every, some, holds, span, if◌then◌else◌}
+use Rattle.scan.specs.Bytes.{every, some, holds, span}
 use Rattle.pattern.specs.Pieces.{Piece, Byte, One, Star, StarStar, Class}
 use Rattle.pattern.specs.Items.{pattern_form, pattern_names}
 use Rattle.pattern.specs.Codes.{decode}

@@ -1,6 +1,6 @@
 -- A whole pattern against a path.
-use Rattle.std.specs.Prelude.{ℕ, zero, suc, List, ◌≡◌, Bool, true, false, ◌&&◌, ◌||◌, length, take, drop, eqb}
-use Rattle.scan.specs.Bytes.{every, if◌then◌else◌}
+use Rattle.std.specs.Prelude.{ℕ, zero, suc, List, ◌≡◌, Bool, true, false, ◌&&◌, ◌||◌, length, take, drop, eqb, if◌then◌else◌}
+use Rattle.scan.specs.Bytes.{every}
 use Rattle.pattern.specs.Pieces.{Piece}
 use Rattle.pattern.specs.Expansions.{Variable, is_literal, joined_after}
 use Rattle.pattern.specs.Faults.{pattern_fault}

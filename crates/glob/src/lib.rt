@@ -1,8 +1,8 @@
 // A whole pattern against a path: every expansion is tried.
 #![tactic(auto)]
 
-ghost use Rattle.std.specs.Prelude.{◌≡◌, true, false, ◌&&◌, List, map, take};
-ghost use Rattle.scan.specs.Bytes.{holds, span, if◌then◌else◌};
+ghost use Rattle.std.specs.Prelude.{◌≡◌, true, false, ◌&&◌, List, map, take, if◌then◌else◌};
+ghost use Rattle.scan.specs.Bytes.{holds, span};
 ghost use Rattle.pattern.specs.Codes.{decode};
 ghost use Rattle.pattern.specs.Expansions.{Variable};
 ghost use Rattle.pattern.specs.Table.{env};

@@ -1,4 +1,5 @@
 -- What the definitions of keywords say of a table of words, and by a word's first byte.
+use Rattle.std.specs.Prelude.{if◌then◌else◌}
 use Prim.Native.Nat.{ℕ, zero, suc, ◌+◌, ◌≤◌, ◌<◌, ◌-◌}
 use Prim.Native.Char.{code}
 use Prim.Native.String.{String}
@@ -11,7 +12,7 @@ use lib.Dec.{eqb}
 use native.Mathlib.Numerals.{add-one}
 use native.Mathlib.Omega.{arith}
 use borrow.Author.Tests.{eqb-true, eq-eqb, ne_eqb}
-use Rattle.scan.specs.Bytes.{begins, between, bytes, every, run, same, some, span, if◌then◌else◌}
+use Rattle.scan.specs.Bytes.{begins, between, bytes, every, run, same, some, span}
 use Rattle.blanks.specs.Blanks.{hash, nul, standing}
 use Rattle.blanks.proofs.Laws.{standing-settled}
 use Rattle.tokens.specs.Tokens.{Next, comma, in_quotes, plain, quote, token_at, token_from}

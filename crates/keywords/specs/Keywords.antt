@@ -1,8 +1,8 @@
 -- Statements of other kinds, by their first words.
-use Rattle.std.specs.Prelude.{ℕ, List, [], ◌∷◌, ◌++◌, Bool, true, false, not, ◌||◌, ◌&&◌, take, eqb}
+use Rattle.std.specs.Prelude.{ℕ, List, [], ◌∷◌, ◌++◌, Bool, true, false, not, ◌||◌, ◌&&◌, take, eqb, if◌then◌else◌}
 use Prim.Native.Char.{code}
 use Prim.Native.String.{String}
-use Rattle.scan.specs.Bytes.{between, bytes, same, some, if◌then◌else◌}
+use Rattle.scan.specs.Bytes.{between, bytes, same, some}
 use Rattle.tokens.specs.Tokens.{Next, Found, Stopped, End, token_at, comma}
 
 -- "its unquoted first word is one of these fixed words"

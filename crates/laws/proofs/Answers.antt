@@ -1,4 +1,5 @@
 -- Demand 3 on the answers to file requests, from the laws of one permission.
+use Rattle.std.specs.Prelude.{if◌then◌else◌}
 use Prim.Native.Nat.{ℕ, ◌<◌}
 use native.Mathlib.Omega.{arith}
 use mathlib.Core.Path.{◌≡◌, refl, sym, ap, ap₂, ◌∙◌, subst, subst₂}
@@ -7,7 +8,7 @@ use mathlib.Core.Bool.{Bool, true, false, not, ◌||◌, ◌&&◌, false≢true}
 use mathlib.Core.Logic.{⊎_elim, ◌⊎◌, inl, inr}
 use lib.Dec.{eqb}
 use borrow.Author.Tests.{eqb-true, ne_eqb, not-true}
-use Rattle.scan.specs.Bytes.{every, some, if◌then◌else◌}
+use Rattle.scan.specs.Bytes.{every, some}
 use Rattle.scan.proofs.Bools.{and_left, and_right}
 use Rattle.perms.specs.Sets.{has, set_of}
 use Rattle.perms.proofs.Laws.{has-set}

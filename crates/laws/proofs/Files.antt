@@ -1,4 +1,5 @@
 -- Document 01's findings are the parts of the seven permissions, and its answer is the one that parts give.
+use Rattle.std.specs.Prelude.{if◌then◌else◌}
 use Prim.Native.Nat.{ℕ, ◌<◌}
 use native.Mathlib.Omega.{arith}
 use mathlib.Core.Path.{◌≡◌, refl, sym, ap, ap₂, ◌∙◌, subst}
@@ -6,7 +7,7 @@ use mathlib.Core.List.{List, [], ◌∷◌, ◌++◌}
 use mathlib.Core.Bool.{Bool, true, false, not, ◌||◌, ◌&&◌, false≢true, and_comm, and-true}
 use lib.Dec.{eqb}
 use borrow.Author.Tests.{eqb-true}
-use Rattle.scan.specs.Bytes.{some, every, if◌then◌else◌}
+use Rattle.scan.specs.Bytes.{some, every}
 use Rattle.scan.proofs.Bools.{and_left, and_right}
 use Rattle.perms.specs.Sets.{has, set_of, perms}
 use Rattle.perms.proofs.Laws.{has-set, set-eq, set-lt}

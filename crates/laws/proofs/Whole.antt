@@ -1,4 +1,5 @@
 -- Every rule of an accepted text is whole.
+use Rattle.std.specs.Prelude.{if◌then◌else◌}
 use Prim.Native.Nat.{ℕ, suc}
 use Prim.Native.Char.{code}
 use native.Mathlib.Omega.{arith}
@@ -8,7 +9,7 @@ use mathlib.Core.Bool.{Bool, true, false, ◌||◌, ◌&&◌, false≢true, or-f
 use lib.ListN.{get_or, take, drop, take-append-drop}
 use lib.Dec.{eqb}
 use borrow.Author.Tests.{eqb-true}
-use Rattle.scan.specs.Bytes.{bytes, same, holds, every, some, run, if◌then◌else◌}
+use Rattle.scan.specs.Bytes.{bytes, same, holds, every, some, run}
 use Rattle.scan.proofs.Bools.{and_left, and_right}
 use Rattle.scan.proofs.Laws.{same-eq, some-append}
 use Rattle.perms.specs.Sets.{has, perms}

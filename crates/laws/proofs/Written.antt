@@ -1,5 +1,6 @@
 -- "Rules are the same when their tokens are, quotes, a written allow and the order or repeating of letters in PERMS aside": such rules are
 -- read as equal.
+use Rattle.std.specs.Prelude.{if◌then◌else◌}
 use Prim.Native.Nat.{ℕ, ◌+◌}
 use Prim.Native.Char.{code}
 use mathlib.Core.Path.{◌≡◌, refl, sym, ap, ◌∙◌}
@@ -8,7 +9,7 @@ use mathlib.Core.Bool.{Bool, true, false, not, ◌||◌, ◌&&◌, and-false, an
 use native.Mathlib.Omega.{arith}
 use lib.ListN.{length, get_or}
 use lib.Dec.{eqb, ltb}
-use Rattle.scan.specs.Bytes.{bytes, same, holds, every, some, if◌then◌else◌}
+use Rattle.scan.specs.Bytes.{bytes, same, holds, every, some}
 use Rattle.scan.proofs.Laws.{same_self}
 use Rattle.perms.specs.Sets.{set_of, perms}
 use Rattle.perms.specs.declared.Perms.{Perms}

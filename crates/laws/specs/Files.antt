@@ -1,6 +1,5 @@
 -- A file request: its rules as a family for each permission; document 01's six sets and the answer, read off the parts of the seven.
-use Rattle.std.specs.Prelude.{ℕ, List, [], Bool, ◌&&◌, eqb}
-use Rattle.scan.specs.Bytes.{if◌then◌else◌}
+use Rattle.std.specs.Prelude.{ℕ, List, [], Bool, ◌&&◌, eqb, if◌then◌else◌}
 use Rattle.perms.specs.Sets.{has, set_of, perms}
 use Rattle.family.specs.Families.{Family, Part, part, choice_of, granted, granted_one, recorded}
 use Rattle.modes.specs.declared.Execute.{Execute}

@@ -1,7 +1,7 @@
 -- The rules of a text as they are written, token by token, and when two rules are the same.
-use Rattle.std.specs.Prelude.{ℕ, zero, suc, ◌+◌, ◌≡◌, Bool, true, false}
+use Rattle.std.specs.Prelude.{ℕ, zero, suc, ◌+◌, ◌≡◌, Bool, true, false, if◌then◌else◌}
 use mathlib.Core.List.{List, [], ◌∷◌, ◌++◌, map, Memᴰ}
-use Rattle.scan.specs.Bytes.{bytes, same, holds, some, if◌then◌else◌}
+use Rattle.scan.specs.Bytes.{bytes, same, holds, some}
 use Rattle.perms.specs.Sets.{perms}
 use Rattle.perms.specs.declared.Perms.{Perms}
 use Rattle.modes.specs.declared.Transition.{Transition}

@@ -1,9 +1,8 @@
 // The bytes of an answer.
 #![tactic(auto)]
 
-ghost use Rattle.std.specs.Prelude.{◌≡◌, ◌++◌, ◌+◌, ◌-◌, ◌%◌, ◌≤◌, ltb, length, drop, replicate};
+ghost use Rattle.std.specs.Prelude.{◌≡◌, ◌++◌, ◌+◌, ◌-◌, ◌%◌, ◌≤◌, ltb, length, drop, replicate, if◌then◌else◌};
 ghost use Rattle.std.proofs.Math.Seq.{paste};
-ghost use Rattle.scan.specs.Bytes.{if◌then◌else◌};
 ghost use Rattle.answer.specs.Answers.{whole_of};
 ghost use Rattle.layout.specs.Layout.{head_by, laid_out, refusal_of};
 

@@ -1,4 +1,5 @@
 -- Pieces that take a byte each at the end of a path, and what is left before them: those at its front, read from the end.
+use Rattle.std.specs.Prelude.{if◌then◌else◌}
 use Prim.Native.Nat.{ℕ, suc, ◌+◌, ◌-◌, ◌≤◌, ◌<◌}
 use mathlib.Core.Path.{◌≡◌, refl, sym, ap, ap₂, ◌∙◌}
 use mathlib.Core.Bool.{Bool, false}
@@ -7,7 +8,6 @@ use lib.ListN.{length, get_or, take, drop, length-reverse, length-drop, take-app
 use lib.Seq.{take-suc, drop_at, get_or-drop}
 use native.Mathlib.Nat.{add-zero}
 use native.Mathlib.Omega.{arith}
-use Rattle.scan.specs.Bytes.{if◌then◌else◌}
 use Rattle.pattern.specs.Pieces.{Piece}
 use Rattle.pattern.specs.Codes.{decode}
 use Rattle.matcher.specs.Match.{accepts}

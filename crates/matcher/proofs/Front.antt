@@ -1,4 +1,5 @@
 -- Pieces that take a byte each at the front of a path, and what is left behind them.
+use Rattle.std.specs.Prelude.{if◌then◌else◌}
 use Prim.Native.Nat.{ℕ, suc, ◌+◌, ◌-◌, ◌≤◌, ◌<◌}
 use mathlib.Core.Path.{◌≡◌, refl, sym, ◌∙◌}
 use mathlib.Core.Bool.{Bool, true, false, not, ◌&&◌}
@@ -9,7 +10,7 @@ use lib.Dec.{eqb}
 use native.Mathlib.Numerals.{add-one}
 use native.Mathlib.Omega.{arith}
 use borrow.Author.Tests.{eq-eqb, ne_eqb, not-true}
-use Rattle.scan.specs.Bytes.{is_empty, if◌then◌else◌}
+use Rattle.scan.specs.Bytes.{is_empty}
 use Rattle.scan.proofs.Bools.{and_left}
 use Rattle.pattern.specs.Codes.{decode}
 use Rattle.matcher.specs.Match.{matches}

@@ -1,6 +1,5 @@
 -- What one step of the walk over a path says of a piece.
-use Rattle.std.specs.Prelude.{ℕ, suc, List, [], ◌∷◌, Bool, true, false, not, ◌&&◌, ◌||◌, length, take, drop, get_or, eqb, leb}
-use Rattle.scan.specs.Bytes.{if◌then◌else◌}
+use Rattle.std.specs.Prelude.{ℕ, suc, List, [], ◌∷◌, Bool, true, false, not, ◌&&◌, ◌||◌, length, take, drop, get_or, eqb, leb, if◌then◌else◌}
 use Rattle.class.specs.Class.{in_class}
 use Rattle.pattern.specs.Pieces.{Piece, Byte, One, Star, StarStar, Class}
 use Rattle.pattern.specs.Codes.{decode}

@@ -1,4 +1,5 @@
 -- The table of modes: the code's table is the definition's, and what a walk over it finds.
+use Rattle.std.specs.Prelude.{if◌then◌else◌}
 use Prim.Native.Nat.{ℕ, zero, suc, ◌+◌, ◌-◌, ◌*◌, ◌<◌, ◌≤◌}
 use mathlib.Core.Path.{◌≡◌, refl, sym, ap, ◌∙◌}
 use mathlib.Core.List.{List, [], ◌∷◌, map}
@@ -10,7 +11,7 @@ use lib.Dec.{eqb, ltb}
 use lib.ListN.{length, get_or, take, drop, drop_of_length-le, get_or-map, get_or-eq_default}
 use lib.Seq.{drop-cons}
 use borrow.Author.Tests.{eqb-true, eq-eqb, lt-ltb, le-ltb}
-use Rattle.scan.specs.Bytes.{bytes, same, span, if◌then◌else◌}
+use Rattle.scan.specs.Bytes.{bytes, same, span}
 use Rattle.scan.proofs.Laws.{same-eq}
 use Rattle.scan.proofs.Bools.{beq-eq}
 use Rattle.modes.specs.Modes.{Row, modes, no_row, mode_in, number_in, word_in, kind_number, fallback_number, same_mode, execute_number, execute_word}

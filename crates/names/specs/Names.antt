@@ -1,7 +1,7 @@
 -- The form of the names of profiles and targets, and of variables.
-use Rattle.std.specs.Prelude.{ℕ, List, [], ◌∷◌, Bool, false, ◌||◌, ◌&&◌, eqb}
+use Rattle.std.specs.Prelude.{ℕ, List, [], ◌∷◌, Bool, false, ◌||◌, ◌&&◌, eqb, if◌then◌else◌}
 use Prim.Native.Char.{code}
-use Rattle.scan.specs.Bytes.{digit, every, holds, letter, if◌then◌else◌}
+use Rattle.scan.specs.Bytes.{digit, every, holds, letter}
 
 -- "Names are literal: letters, digits, / . _ - +, and space when quoted"
 abbrev pub name_byte : (quoted : Bool) → ℕ → Bool

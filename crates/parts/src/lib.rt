@@ -1,8 +1,8 @@
 // The parts and items of patterns and values, read at a place.
 #![tactic(auto)]
 
-ghost use Rattle.std.specs.Prelude.{◌≡◌, ltb, drop};
-ghost use Rattle.scan.specs.Bytes.{span, if◌then◌else◌};
+ghost use Rattle.std.specs.Prelude.{◌≡◌, ltb, drop, if◌then◌else◌};
+ghost use Rattle.scan.specs.Bytes.{span};
 ghost use Rattle.pattern.specs.Places.{part_at, item_at, lone};
 ghost use Rattle.pattern.specs.Reads.{escape_of, star_of, single_of, class_after, use_after, Seen, seen_item, code_of};
 

@@ -1,4 +1,5 @@
 -- What the definitions of parts and items say at a place.
+use Rattle.std.specs.Prelude.{if◌then◌else◌}
 use Prim.Native.Nat.{ℕ, zero, suc, ◌+◌, ◌*◌, ◌-◌, ◌≤◌, ◌<◌}
 use Prim.Native.Char.{code}
 use mathlib.Core.Path.{◌≡◌, refl, sym, ap, ◌∙◌}
@@ -11,7 +12,7 @@ use borrow.Author.Tests.{ltb-true, lt-ltb, le-ltb, eq-eqb, ne_eqb, eqb-true}
 use native.Mathlib.Nat.{zero-add, not-suc-le-zero, le_of_suc-le-suc}
 use native.Mathlib.Numerals.{add-one}
 use native.Mathlib.Omega.{arith}
-use Rattle.scan.specs.Bytes.{begins, run, same, some, span, if◌then◌else◌}
+use Rattle.scan.specs.Bytes.{begins, run, same, some, span}
 use Rattle.scan.proofs.Laws.{run_take, drop-span, span-span}
 use Rattle.class.specs.Class.{good_class}
 use Rattle.pattern.specs.Pieces.{Byte, One, Star, StarStar, Class, Part, Is, Use, Bad, Start, start, starting, up_to, extra, escaped, class_part, use_part, part, parts}

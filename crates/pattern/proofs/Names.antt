@@ -1,4 +1,5 @@
 -- A pattern that holds no @ uses no variable: the variables do not bear on it.
+use Rattle.std.specs.Prelude.{if◌then◌else◌}
 use Prim.Native.Nat.{ℕ, zero, suc}
 use Prim.Native.Char.{code}
 use mathlib.Core.Path.{◌≡◌, refl, sym, ap, ap₂, ◌∙◌}
@@ -7,7 +8,7 @@ use mathlib.Core.Bool.{Bool, true, false, ◌&&◌, ◌||◌, false≢true}
 use lib.ListN.{take}
 use lib.Dec.{eqb, ltb}
 use borrow.Author.Tests.{eqb-false, ne_eqb}
-use Rattle.scan.specs.Bytes.{every, some, holds, begins, if◌then◌else◌}
+use Rattle.scan.specs.Bytes.{every, some, holds, begins}
 use Rattle.scan.proofs.Bools.{and_left, and_right, neither_left, neither_right}
 use Rattle.class.specs.Class.{good_class}
 use Rattle.pattern.specs.Pieces.{Piece, Byte, Class, Part, Is, Use, Bad, Start, start, up_to, escaped, class_part, starting, part, extra, parts}

@@ -1,7 +1,7 @@
 -- The numbers that stand for pieces in a buffer.
-use Rattle.std.specs.Prelude.{ℕ, ◌-◌, List, [], ◌∷◌, Bool, true, not, ◌&&◌, take, drop, eqb, ltb}
+use Rattle.std.specs.Prelude.{ℕ, ◌-◌, List, [], ◌∷◌, Bool, true, not, ◌&&◌, take, drop, eqb, ltb, if◌then◌else◌}
 use Prim.Native.Char.{code}
-use Rattle.scan.specs.Bytes.{run, if◌then◌else◌}
+use Rattle.scan.specs.Bytes.{run}
 use Rattle.pattern.specs.Pieces.{Piece, Byte, One, Star, StarStar, Class}
 
 -- the bytes from a place up to before the next ]

@@ -1,7 +1,7 @@
 -- The expansions of a pattern: every choice of values and alternatives.
-use Rattle.std.specs.Prelude.{ℕ, ◌+◌, ◌*◌, max, List, [], ◌∷◌, ◌++◌, map, Bool, true, false, ◌&&◌, length, eqb}
+use Rattle.std.specs.Prelude.{ℕ, ◌+◌, ◌*◌, max, List, [], ◌∷◌, ◌++◌, map, Bool, true, false, ◌&&◌, length, eqb, if◌then◌else◌}
 use Prim.Native.Char.{code}
-use Rattle.scan.specs.Bytes.{same, some, if◌then◌else◌}
+use Rattle.scan.specs.Bytes.{same, some}
 use Rattle.pattern.specs.Pieces.{Piece, Byte, One, Star, StarStar, Class, Part, Is, Use, Bad, parts}
 use Rattle.pattern.specs.Items.{Item, Single, Among, items}
 

@@ -1,7 +1,7 @@
 -- The items of a pattern: its parts, and its alternations.
-use Rattle.std.specs.Prelude.{ℕ, zero, suc, List, [], ◌∷◌, Bool, true, false, ◌&&◌, length, take, eqb, leb, ltb}
+use Rattle.std.specs.Prelude.{ℕ, zero, suc, List, [], ◌∷◌, Bool, true, false, ◌&&◌, length, take, eqb, leb, ltb, if◌then◌else◌}
 use Prim.Native.Char.{code}
-use Rattle.scan.specs.Bytes.{every, if◌then◌else◌}
+use Rattle.scan.specs.Bytes.{every}
 use Rattle.pattern.specs.Pieces.{Part, Is, Use, Bad, extra, part, parts}
 
 -- how many bytes after the first k stand before the first c that belongs to no part

@@ -1,7 +1,7 @@
 -- The pieces of a pattern or value, and the uses of variables between them.
-use Rattle.std.specs.Prelude.{ℕ, zero, suc, ◌-◌, List, [], ◌∷◌, not, ◌||◌, ◌&&◌, length, take, drop, eqb, ltb}
+use Rattle.std.specs.Prelude.{ℕ, zero, suc, ◌-◌, List, [], ◌∷◌, not, ◌||◌, ◌&&◌, length, take, drop, eqb, ltb, if◌then◌else◌}
 use Prim.Native.Char.{code}
-use Rattle.scan.specs.Bytes.{begins, run, if◌then◌else◌}
+use Rattle.scan.specs.Bytes.{begins, run}
 use Rattle.class.specs.Class.{good_class}
 
 -- "Pieces: a literal byte; ? one byte other than /; * any number of bytes other than /; ** any number of any bytes;

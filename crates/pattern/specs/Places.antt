@@ -1,7 +1,6 @@
 -- The parts and items at a place of a pattern or value.
-use Rattle.std.specs.Prelude.{ℕ, ◌+◌, List, [], ◌∷◌, Bool, ◌||◌, length, get_or, drop, eqb, ltb}
+use Rattle.std.specs.Prelude.{ℕ, ◌+◌, List, [], ◌∷◌, Bool, ◌||◌, length, get_or, drop, eqb, ltb, if◌then◌else◌}
 use Prim.Native.Char.{code}
-use Rattle.scan.specs.Bytes.{if◌then◌else◌}
 use Rattle.pattern.specs.Pieces.{Part, Bad, part, extra}
 use Rattle.pattern.specs.Items.{Item, Single, item, reach}
 

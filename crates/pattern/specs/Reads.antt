@@ -1,7 +1,7 @@
 -- What the code's readings of parts and items stand for in a text.
-use Rattle.std.specs.Prelude.{ℕ, ◌+◌, ◌≤◌, ◌≡◌, List, [], ◌∷◌, length, eqb}
+use Rattle.std.specs.Prelude.{ℕ, ◌+◌, ◌≤◌, ◌≡◌, List, [], ◌∷◌, length, eqb, if◌then◌else◌}
 use Prim.Native.Char.{code}
-use Rattle.scan.specs.Bytes.{begins, span, if◌then◌else◌}
+use Rattle.scan.specs.Bytes.{begins, span}
 use Rattle.pattern.specs.Pieces.{Part, Is, Use, Bad, up_to, class_part, use_part}
 use Rattle.pattern.specs.Places.{lone}
 use Rattle.pattern.specs.Items.{Item, Single, Among, alternatives}

@@ -1,4 +1,5 @@
 -- What a PERMS word says, at each step of its reader.
+use Rattle.std.specs.Prelude.{if◌then◌else◌}
 use Prim.Native.Nat.{ℕ, suc, ◌+◌, ◌-◌, ◌^◌, ◌<◌, ◌≤◌}
 use Prim.Native.Char.{code}
 use mathlib.Core.Path.{◌≡◌, refl, sym, ap, ◌∙◌}
@@ -12,7 +13,7 @@ use lib.Bits.{bit_or, or_lt, or_zero_r}
 use lib.ListN.{length, get_or, take, drop, drop_of_length-le}
 use lib.Seq.{drop-cons, drop-drop}
 use borrow.Author.Tests.{eq-eqb, ne_eqb}
-use Rattle.scan.specs.Bytes.{bytes, same, holds, some, every, run, if◌then◌else◌}
+use Rattle.scan.specs.Bytes.{bytes, same, holds, some, every, run}
 use Rattle.perms.specs.Sets.{has, perms}
 use Rattle.modes.specs.Modes.{Row, modes, mode_in}
 use Rattle.perms_word.specs.Words.{letters, perm_letter, other, carried, before_letters, mode_part, named, with_mode, word_of}

@@ -1,7 +1,7 @@
 -- What a PERMS word says.
-use Rattle.std.specs.Prelude.{ℕ, List, [], ◌∷◌, Bool, true, false, not, ◌&&◌, ◌||◌, get_or, take, drop, eqb}
+use Rattle.std.specs.Prelude.{ℕ, List, [], ◌∷◌, Bool, true, false, not, ◌&&◌, ◌||◌, get_or, take, drop, eqb, if◌then◌else◌}
 use Prim.Native.Char.{code}
-use Rattle.scan.specs.Bytes.{bytes, same, holds, every, run, if◌then◌else◌}
+use Rattle.scan.specs.Bytes.{bytes, same, holds, every, run}
 use Rattle.perms.specs.Sets.{set_of, perms}
 use Rattle.modes.specs.Modes.{modes, mode_in}
 use Rattle.perms.specs.declared.Perms.{Perms}

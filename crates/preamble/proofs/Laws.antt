@@ -1,4 +1,5 @@
 -- What the definitions of assignments say at a place.
+use Rattle.std.specs.Prelude.{if◌then◌else◌}
 use Prim.Native.Nat.{ℕ, zero, suc, ◌+◌, ◌*◌, ◌-◌, ◌≤◌, ◌<◌, min}
 use Prim.Native.Char.{code}
 use mathlib.Core.Path.{◌≡◌, refl, sym, ap, ap₂, ◌∙◌}
@@ -9,7 +10,7 @@ use lib.Seq.{drop-cons}
 use lib.Dec.{eqb, leb}
 use borrow.Author.Tests.{ne_eqb, le-leb, lt-leb, leb-true, leb-false, eqb-false}
 use native.Mathlib.Omega.{arith}
-use Rattle.scan.specs.Bytes.{begins, bytes, is_empty, run, same, some, span, if◌then◌else◌}
+use Rattle.scan.specs.Bytes.{begins, bytes, is_empty, run, same, some, span}
 use Rattle.scan.proofs.Laws.{same-eq, same_self}
 use Rattle.names.specs.Names.{variable_fault}
 use Rattle.text.specs.Reading.{Reading, Read, Refused, ◌>>=◌, refuse_if, judged}

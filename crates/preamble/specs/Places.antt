@@ -1,6 +1,6 @@
 -- What the code's operators, values and preambles mean over the text.
-use Rattle.std.specs.Prelude.{ℕ, zero, suc, ◌+◌, ◌-◌, ◌<◌, min, ◌≡◌, List, ◌++◌, Bool, true, false, not, length, eqb}
-use Rattle.scan.specs.Bytes.{is_empty, if◌then◌else◌}
+use Rattle.std.specs.Prelude.{ℕ, zero, suc, ◌+◌, ◌-◌, ◌<◌, min, ◌≡◌, List, ◌++◌, Bool, true, false, not, length, eqb, if◌then◌else◌}
+use Rattle.scan.specs.Bytes.{is_empty}
 use Rattle.text.specs.Reading.{Reading, Read, Refused, ◌>>=◌, refuse_if, judged}
 use Rattle.text.specs.Places.{refused_by}
 use Rattle.tokens.specs.Tokens.{no_stop, token_at, wanted}

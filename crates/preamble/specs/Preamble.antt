@@ -1,7 +1,7 @@
 -- The assignments in front of the profiles.
-use Rattle.std.specs.Prelude.{ℕ, zero, suc, ◌+◌, ◌-◌, List, [], ◌∷◌, Bool, true, false, not, ◌||◌, length, take, drop, eqb, leb}
+use Rattle.std.specs.Prelude.{ℕ, zero, suc, ◌+◌, ◌-◌, List, [], ◌∷◌, Bool, true, false, not, ◌||◌, length, take, drop, eqb, leb, if◌then◌else◌}
 use Prim.Native.Char.{code}
-use Rattle.scan.specs.Bytes.{begins, bytes, is_empty, run, same, span, if◌then◌else◌}
+use Rattle.scan.specs.Bytes.{begins, bytes, is_empty, run, same, span}
 use Rattle.text.specs.Reading.{Reading, Read, Refused, ◌>>=◌, refuse_if, judged}
 use Rattle.names.specs.Names.{variable_fault}
 use Rattle.blanks.specs.Blanks.{blank, hash, in_line, nul, standing, stands_at}

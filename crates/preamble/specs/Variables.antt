@@ -1,6 +1,6 @@
 -- Assignments and the variables they set.
-use Rattle.std.specs.Prelude.{ℕ, List, [], ◌∷◌, ◌++◌, Bool, true, false}
-use Rattle.scan.specs.Bytes.{same, if◌then◌else◌}
+use Rattle.std.specs.Prelude.{ℕ, List, [], ◌∷◌, ◌++◌, Bool, true, false, if◌then◌else◌}
+use Rattle.scan.specs.Bytes.{same}
 use Rattle.pattern.specs.Expansions.{Variable}
 
 -- an assignment: += adds values to a name that is set, = sets a name

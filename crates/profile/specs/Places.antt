@@ -1,8 +1,7 @@
 -- The table of profiles, as numbers, and what the code's values mean over the text: profile i has the places of its name at 4 * i,
 -- the place where its rules start at 4 * i + 2, and their number at 4 * i + 3.
-use Rattle.std.specs.Prelude.{ℕ, zero, suc, ◌+◌, ◌*◌, ◌≤◌, ◌≡◌, List, [], ◌∷◌, ◌++◌, Bool, get_or}
+use Rattle.std.specs.Prelude.{ℕ, zero, suc, ◌+◌, ◌*◌, ◌≤◌, ◌≡◌, List, [], ◌∷◌, ◌++◌, Bool, get_or, if◌then◌else◌}
 use Prim.Native.Char.{code}
-use Rattle.scan.specs.Bytes.{if◌then◌else◌}
 use Rattle.text.specs.Reading.{Reading, Read, Refused, ◌>>=◌, nowhere, refusal_at}
 use Rattle.text.specs.Places.{refused_by}
 use Rattle.text.specs.declared.Place.{Place}

@@ -1,9 +1,10 @@
 -- What the definition of qualifiers says, and that a rule is the same from two places with the same thing next.
+use Rattle.std.specs.Prelude.{if◌then◌else◌}
 use Prim.Native.Nat.{ℕ}
 use mathlib.Core.Path.{◌≡◌, refl, sym, ap}
 use mathlib.Core.List.{List}
 use mathlib.Core.Bool.{Bool, true, false, ◌||◌, ◌&&◌, false≢true}
-use Rattle.scan.specs.Bytes.{bytes, if◌then◌else◌}
+use Rattle.scan.specs.Bytes.{bytes}
 use Rattle.text.specs.Reading.{Reading, Read, ◌>>=◌, refuse_if}
 use Rattle.blanks.specs.Blanks.{standing}
 use Rattle.tokens.specs.Tokens.{Token, Next, Found, Stopped, End, comma, is_word, no_stop, token_at, wanted}

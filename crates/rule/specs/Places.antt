@@ -1,6 +1,6 @@
 -- What the code's values mean over the text.
-use Rattle.std.specs.Prelude.{ℕ, ◌≡◌, List, false}
-use Rattle.scan.specs.Bytes.{bytes, if◌then◌else◌}
+use Rattle.std.specs.Prelude.{ℕ, ◌≡◌, List, false, if◌then◌else◌}
+use Rattle.scan.specs.Bytes.{bytes}
 use Rattle.text.specs.Places.{span_of}
 use Rattle.tokens.specs.Tokens.{no_stop, token_at}
 use Rattle.tokens.specs.Places.{seen}

@@ -8,12 +8,6 @@ unfoldable pub bytes : String → List ℕ
 bytes [] = []ᴸ
 bytes (c ∷ s) = code c ∷ᴸ bytes s
 
-infix 5 if◌then◌else◌
--- the first where the test holds, else the second
-abbrev pub if◌then◌else◌ {ℓ} : {A : Type ℓ} → Bool → A → A → A
-if true then a else b = a
-if false then a else b = b
-
 -- every element is of the kind p; some element is
 unfoldable pub every : {A : Type 0} → (A → Bool) → List A → Bool
 every p []ᴸ = true

@@ -1,4 +1,5 @@
 -- What reading told, as C gets it.
+use Rattle.std.specs.Prelude.{if◌then◌else◌}
 use Prim.Native.Nat.{ℕ, ◌+◌, ◌*◌, ◌≤◌, ◌<◌}
 use mathlib.Core.Path.{◌≡◌, refl, sym, ap, subst, ◌∙◌}
 use mathlib.Core.List.{List, [], ◌++◌}
@@ -6,7 +7,6 @@ use mathlib.Core.Bool.{Bool, true, false, not, ◌||◌, not-not}
 use borrow.Author.Tests.{lt-ltb, le-ltb}
 use lib.ListN.{length, get_or, drop}
 use lib.Dec.{ltb}
-use Rattle.scan.specs.Bytes.{if◌then◌else◌}
 use Rattle.text.specs.Reading.{nowhere}
 use Rattle.answer.specs.Answers.{refusal}
 use Rattle.answer.specs.declared.Answer.{Answer}

@@ -1,6 +1,5 @@
 -- What a caller from C is told: of reading, and of a rule.
-use Rattle.std.specs.Prelude.{ℕ, ◌+◌, ◌*◌, ◌≡◌, List, ◌++◌, length, drop, ltb}
-use Rattle.scan.specs.Bytes.{if◌then◌else◌}
+use Rattle.std.specs.Prelude.{ℕ, ◌+◌, ◌*◌, ◌≡◌, List, ◌++◌, length, drop, ltb, if◌then◌else◌}
 use Rattle.text.specs.Reading.{nowhere}
 use Rattle.answer.specs.Answers.{refusal}
 use Rattle.entries.specs.Entries.{Told, Short, Rejected, Accepted, numbers_in, numbers_of, policy_in, read_of}

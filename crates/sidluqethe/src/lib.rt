@@ -1,8 +1,7 @@
 // The entry points for C.
 #![tactic(auto)]
 
-ghost use Rattle.std.specs.Prelude.{◌≡◌, ◌++◌, not, eqb, ltb, length, drop};
-ghost use Rattle.scan.specs.Bytes.{if◌then◌else◌};
+ghost use Rattle.std.specs.Prelude.{◌≡◌, ◌++◌, not, eqb, ltb, length, drop, if◌then◌else◌};
 ghost use Rattle.text.specs.Reading.{nowhere};
 ghost use Rattle.answer.specs.Answers.{refusal};
 ghost use Rattle.entries.specs.Entries.{policy_in};

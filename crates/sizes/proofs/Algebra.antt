@@ -1,4 +1,5 @@
 -- Sizes put together, whatever they hold: in any order, and a size once cut to its bounds stays.
+use Rattle.std.specs.Prelude.{if◌then◌else◌}
 use Prim.Native.Nat.{ℕ, zero, suc, ◌+◌, ◌*◌, ◌≤◌, min, max}
 use mathlib.Core.Path.{◌≡◌, refl, sym, ap, ◌∙◌}
 use mathlib.Core.Bool.{Bool, true, false, not, ◌||◌, ◌&&◌}
@@ -6,7 +7,6 @@ use lib.Dec.{eqb}
 use borrow.Author.Tests.{ne_eqb}
 use native.Mathlib.Nat.{mul-zero, zero-mul, mul-one, one-mul, mul_assoc}
 use native.Mathlib.Omega.{arith}
-use Rattle.scan.specs.Bytes.{if◌then◌else◌}
 use Rattle.sizes.specs.declared.Size.{Size}
 use Rattle.sizes.specs.Sizes.{times_of, plus_of, no_size, nil_size}
 use Rattle.sizes.proofs.Laws.{size-eq, min-twice, sat-mul, le-mul, and_assoc, or_assoc}

@@ -1,4 +1,5 @@
 -- The expansions under a right table of sizes are those of the list, by size and by number.
+use Rattle.std.specs.Prelude.{if◌then◌else◌}
 use Prim.Native.Nat.{ℕ, zero, suc, ◌*◌, ◌-◌, ◌/◌, ◌%◌, ◌≤◌, ◌<◌, min}
 use mathlib.Core.Path.{◌≡◌, refl, sym, ap₂, ◌∙◌}
 use mathlib.Core.List.{List, [], ◌∷◌, ◌++◌}
@@ -8,7 +9,7 @@ use lib.Dec.{ltb}
 use borrow.Author.Tests.{ne_eqb, ltb-true, ltb-false}
 use native.Mathlib.Nat.{not-suc-le-zero}
 use native.Mathlib.Omega.{arith}
-use Rattle.scan.specs.Bytes.{same, if◌then◌else◌}
+use Rattle.scan.specs.Bytes.{same}
 use Rattle.pattern.specs.Pieces.{Piece, Part, Is, Use, Bad, parts}
 use Rattle.pattern.specs.Items.{Item, Single, Among, items}
 use Rattle.pattern.specs.Expansions.{listing, of_part, of_parts, one_of, of_name, of_item, of_items, expansions}

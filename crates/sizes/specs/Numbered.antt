@@ -1,6 +1,6 @@
 -- The expansions of a text under a table of sizes, whatever the table holds: their size, and each by its number.
-use Rattle.std.specs.Prelude.{ℕ, zero, suc, ◌-◌, ◌*◌, ◌/◌, ◌%◌, min, List, [], ◌∷◌, ◌++◌, true, false, eqb, ltb}
-use Rattle.scan.specs.Bytes.{same, if◌then◌else◌}
+use Rattle.std.specs.Prelude.{ℕ, zero, suc, ◌-◌, ◌*◌, ◌/◌, ◌%◌, min, List, [], ◌∷◌, ◌++◌, true, false, eqb, ltb, if◌then◌else◌}
+use Rattle.scan.specs.Bytes.{same}
 use Rattle.pattern.specs.Pieces.{Piece, Part, parts}
 use Rattle.pattern.specs.Items.{Item, items}
 use Rattle.pattern.specs.Expansions.{Choices, of_part, of_parts, one_of, of_item, of_items, is_slash}

@@ -1,6 +1,6 @@
 -- The size of a list of expansions: what the limits and the first / ask of all of them.
-use Rattle.std.specs.Prelude.{ℕ, ◌+◌, ◌*◌, ◌≤◌, min, max, ◌≡◌, List, [], ◌∷◌, Bool, true, false, not, ◌||◌, ◌&&◌, length, get_or, set, eqb, ltb}
-use Rattle.scan.specs.Bytes.{every, some, if◌then◌else◌}
+use Rattle.std.specs.Prelude.{ℕ, ◌+◌, ◌*◌, ◌≤◌, min, max, ◌≡◌, List, [], ◌∷◌, Bool, true, false, not, ◌||◌, ◌&&◌, length, get_or, set, eqb, ltb, if◌then◌else◌}
+use Rattle.scan.specs.Bytes.{every, some}
 use Rattle.pattern.specs.Pieces.{Piece, Part, parts}
 use Rattle.pattern.specs.Items.{Item}
 use Rattle.pattern.specs.Expansions.{Variable, listing, of_part, of_parts, one_of, of_name, of_item, longest, is_slash}

@@ -1,5 +1,6 @@
 -- The lists behind the walks: how many records count, what one record more makes of the findings, and that what the walk ends with is the answer.
 -- Assumes nothing.
+use Rattle.std.specs.Prelude.{if◌then◌else◌}
 use mathlib.Core.Path.{◌≡◌, refl, sym, ◌∙◌, ap, subst}
 use Prim.Native.Nat.{ℕ, zero, suc, ◌+◌, ◌<◌, ◌≤◌, min}
 use native.Mathlib.Omega.{arith}
@@ -10,7 +11,6 @@ use mathlib.Core.List.{List, ◌∷◌, map}
 use lib.ListN.{length, get_or, take, drop, drop_of_length-le}
 use lib.Dec.{eqb}
 use lib.Seq.{drop-cons, get_or-take, length-take-le}
-use Rattle.scan.specs.Bytes.{if◌then◌else◌}
 use Rattle.perms.specs.declared.Perms.{Perms}
 use Rattle.pattern.specs.Expansions.{Variable}
 use Rattle.pattern.specs.Table.{env}

@@ -1,4 +1,5 @@
 -- The line and the column of a place, and of the place after it.
+use Rattle.std.specs.Prelude.{if◌then◌else◌}
 use Prim.Native.Nat.{ℕ, suc, ◌+◌, ◌≤◌, ◌<◌}
 use Prim.Native.Char.{code}
 use mathlib.Core.Path.{◌≡◌, refl, ap}
@@ -9,7 +10,7 @@ use lib.Seq.{take_all, take-suc}
 use lib.Dec.{eqb}
 use native.Mathlib.Numerals.{add-one}
 use native.Mathlib.Omega.{arith}
-use Rattle.scan.specs.Bytes.{run, if◌then◌else◌}
+use Rattle.scan.specs.Bytes.{run}
 use borrow.Author.Tests.{eq-eqb, ne_eqb}
 use Rattle.text.specs.Reading.{feeds, line_of, not_feed, column_of}
 

@@ -1,7 +1,7 @@
 -- What reading gives: a value, or one refusal.
-use Rattle.std.specs.Prelude.{ℕ, zero, suc, ◌+◌, List, [], ◌∷◌, reverse, Bool, true, false, not, take, eqb}
+use Rattle.std.specs.Prelude.{ℕ, zero, suc, ◌+◌, List, [], ◌∷◌, reverse, Bool, true, false, not, take, eqb, if◌then◌else◌}
 use Prim.Native.Char.{code}
-use Rattle.scan.specs.Bytes.{run, if◌then◌else◌}
+use Rattle.scan.specs.Bytes.{run}
 use Rattle.text.specs.declared.Refusal.{Refusal}
 
 -- a refusal has its number and the place of the offending token

@@ -1,4 +1,5 @@
 -- What the definitions of tokens say at a place of a text.
+use Rattle.std.specs.Prelude.{if◌then◌else◌}
 use Prim.Native.Nat.{ℕ, ◌+◌, ◌-◌, ◌≤◌, ◌<◌}
 use mathlib.Core.Path.{◌≡◌, refl, sym, ap, ◌∙◌}
 use mathlib.Core.List.{List, [], ◌∷◌}
@@ -13,7 +14,7 @@ use native.Mathlib.Omega.{arith}
 use borrow.Author.Tests.{eq-eqb, ne_eqb}
 use types.Run.{OneOf}
 use denote.Enum.Declared.{tag_of}
-use Rattle.scan.specs.Bytes.{begins, run, span, if◌then◌else◌}
+use Rattle.scan.specs.Bytes.{begins, run, span}
 use Rattle.text.specs.Places.{refused_by}
 use Rattle.blanks.specs.Blanks.{hash, nul, standing}
 use Rattle.blanks.proofs.Laws.{standing-inside}

@@ -1,7 +1,7 @@
 -- The next token at a place of a text.
-use Rattle.std.specs.Prelude.{ℕ, ◌+◌, List, [], ◌∷◌, Bool, true, false, not, ◌||◌, ◌&&◌, take, drop, eqb}
+use Rattle.std.specs.Prelude.{ℕ, ◌+◌, List, [], ◌∷◌, Bool, true, false, not, ◌||◌, ◌&&◌, take, drop, eqb, if◌then◌else◌}
 use Prim.Native.Char.{code}
-use Rattle.scan.specs.Bytes.{same, begins, run, if◌then◌else◌}
+use Rattle.scan.specs.Bytes.{same, begins, run}
 use Rattle.text.specs.Reading.{Reading, Read, Refused}
 use Rattle.blanks.specs.Blanks.{blank, hash, nul, standing}
 

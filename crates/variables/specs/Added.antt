@@ -1,6 +1,6 @@
 -- What a step changes in the table of variables.
-use Rattle.std.specs.Prelude.{ℕ, suc, ◌+◌, ◌*◌, ◌-◌, ◌<◌, min, ◌≡◌, List, [], ◌∷◌, ◌++◌, ◌&&◌, get_or, set, ltb}
-use Rattle.scan.specs.Bytes.{span, if◌then◌else◌}
+use Rattle.std.specs.Prelude.{ℕ, suc, ◌+◌, ◌*◌, ◌-◌, ◌<◌, min, ◌≡◌, List, [], ◌∷◌, ◌++◌, ◌&&◌, get_or, set, ltb, if◌then◌else◌}
+use Rattle.scan.specs.Bytes.{span}
 use Rattle.pattern.specs.Table.{bytes_at, values_of, variables}
 
 -- how many values variable w has

@@ -2,8 +2,8 @@
 // its values at 64 + w, and the places of value k at 96 + 2 * (16 * w + k). At most 32 are set, with 16 values each.
 #![tactic(auto)]
 
-ghost use Rattle.std.specs.Prelude.{◌≡◌, min, ltb, length, get_or};
-ghost use Rattle.scan.specs.Bytes.{if◌then◌else◌, span};
+ghost use Rattle.std.specs.Prelude.{◌≡◌, min, ltb, length, get_or, if◌then◌else◌};
+ghost use Rattle.scan.specs.Bytes.{span};
 ghost use Rattle.pattern.specs.Table.{number_of};
 ghost use Rattle.variables.specs.Added.{held_by, name_set, value_set};
 

@@ -1,4 +1,5 @@
 -- What is gathered rule by rule is the findings of the rules.
+use Rattle.std.specs.Prelude.{if◌then◌else◌}
 use Prim.Native.Nat.{ℕ, suc, ◌<◌}
 use mathlib.Core.Path.{◌≡◌, refl, sym, ap, ◌∙◌}
 use mathlib.Core.List.{List, [], ◌∷◌, ◌++◌, append_assoc, append-nil}
@@ -6,7 +7,7 @@ use mathlib.Core.Bool.{Bool, true, false, not, ◌||◌, ◌&&◌, and-false, or
 use lib.Bits.{bit_or, or_zero_r}
 use lib.ListN.{length}
 use borrow.Author.Tests.{eq-eqb, le-leb, lt-leb}
-use Rattle.scan.specs.Bytes.{some, if◌then◌else◌}
+use Rattle.scan.specs.Bytes.{some}
 use Rattle.perms.specs.Sets.{has, set_of}
 use Rattle.perms.proofs.Laws.{set-eq}
 use Rattle.text.specs.Reading.{Reading}

@@ -1,4 +1,5 @@
 -- Rules that were read are sound.
+use Rattle.std.specs.Prelude.{if◌then◌else◌}
 use Prim.Native.Nat.{ℕ, zero, suc, ◌+◌, ◌<◌}
 use Prim.Native.Char.{code}
 use mathlib.Core.Path.{◌≡◌, refl, subst}
@@ -6,7 +7,7 @@ use mathlib.Core.List.{List, [], ◌∷◌}
 use mathlib.Core.Bool.{Bool, true, false, ◌||◌, ◌&&◌}
 use lib.Dec.{eqb}
 use lib.ListN.{get_or}
-use Rattle.scan.specs.Bytes.{bytes, every, holds, same, if◌then◌else◌}
+use Rattle.scan.specs.Bytes.{bytes, every, holds, same}
 use Rattle.perms.specs.Sets.{perms}
 use Rattle.modes.specs.Modes.{modes, mode_in}
 use Rattle.perms_word.specs.Words.{carried, letters, mode_part, named, with_mode, word_of}

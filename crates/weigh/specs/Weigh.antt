@@ -1,6 +1,5 @@
 -- What one rule more adds to what was gathered, by how its pattern matches.
-use Rattle.std.specs.Prelude.{ℕ, ◌≤◌, ◌≡◌, List, Bool, true, not, ◌||◌, ◌&&◌, length}
-use Rattle.scan.specs.Bytes.{if◌then◌else◌}
+use Rattle.std.specs.Prelude.{ℕ, ◌≤◌, ◌≡◌, List, Bool, true, not, ◌||◌, ◌&&◌, length, if◌then◌else◌}
 use Rattle.matcher.specs.Walk.{path_fits}
 use Rattle.pattern.specs.Expansions.{Variable}
 use Rattle.pattern.specs.Faults.{pattern_fault}

@@ -1,4 +1,5 @@
 -- What the code of words and fronts rests on: a turn of each loop, and the parts of a slice.
+use Rattle.std.specs.Prelude.{if◌then◌else◌}
 use mathlib.Core.Path.{◌≡◌, refl, ap, ◌∙◌}
 use mathlib.Core.List.{List, [], ◌∷◌}
 use mathlib.Core.Bool.{Bool, true, false}
@@ -11,7 +12,7 @@ use lib.ListN.{length, get_or, take, drop, drop_of_length-le}
 use lib.Seq.{drop-cons}
 use lib.Pow.{pow_mono}
 use lib.Dec.{eqb}
-use Rattle.scan.specs.Bytes.{span, if◌then◌else◌}
+use Rattle.scan.specs.Bytes.{span}
 use Rattle.front.specs.Front.{plain_after, front_after, front}
 use Rattle.words.specs.Words.{word_of}
 use Rattle.words.proofs.Laws.{byte_more}

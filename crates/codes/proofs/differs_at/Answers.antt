@@ -1,3 +1,4 @@
+use Rattle.std.specs.Prelude.{if◌then◌else◌}
 use Prim.Native.Nat.{suc}
 use Prim.Native.Char.{code}
 use native.Mathlib.Omega.{arith}
@@ -6,7 +7,6 @@ use lib.Dec.{eqb}
 use mathlib.Core.Path.{◌≡◌, refl, sym}
 use mathlib.Core.Bool.{Bool, true, false, not}
 use borrow.Author.Tests.{lt-ltb, le-ltb}
-use Rattle.scan.specs.Bytes.{if◌then◌else◌}
 use Rattle.codes.specs.declared.Held.{Held}
 use Rattle.codes.specs.Held.{held_from, held_byte}
 use Rattle.codes.proofs.differs_at.Goals as goal
