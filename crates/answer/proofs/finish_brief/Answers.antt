@@ -11,7 +11,6 @@ use Rattle.answer.specs.Answers.{execute_by, is_mode, named_by, target_of, whole
 use Rattle.answer.specs.Parts.{answer_to, first_of, target_by}
 use Rattle.answer.specs.declared.Verdict.TheVariants.{Answered}
 use Rattle.answer.proofs.Laws.{execute-is, granted-is, named-target, recorded-is}
-use borrow.Author.Rules.{rules}
 use Rattle.answer.proofs.finish_brief.Goals as goal
 
 pub returns : goal.returns

@@ -1,6 +1,5 @@
 use native.Mathlib.Omega.{arith}
 use Rattle.answer.proofs.Laws.{granted-mode, granted-none}
-use borrow.Author.Rules.{rules}
 use Rattle.answer.proofs.granted_of.Goals as goal
 
 pub returns-then-mode : goal.returns-then-mode

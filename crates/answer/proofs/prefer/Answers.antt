@@ -1,5 +1,4 @@
 use Rattle.findings.specs.Weighed.{seen_choice}
-use borrow.Author.Rules.{rules}
 use Rattle.answer.proofs.prefer.Goals as goal
 
 pub returns-in-None : goal.returns-in-None

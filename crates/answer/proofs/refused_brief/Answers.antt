@@ -1,5 +1,4 @@
 use Rattle.answer.specs.Answers.{whole_of}
-use borrow.Author.Rules.{rules}
 use Rattle.answer.proofs.refused_brief.Goals as goal
 
 pub returns : goal.returns

@@ -1,14 +1,6 @@
-use borrow.Author.Rules.{rules}
-use Prim.Native.Nat.{◌-◌, ◌≤◌}
-use mathlib.Core.Path.{◌≡◌, refl}
-use mathlib.Core.List.{◌++◌}
 use native.Mathlib.Omega.{arith}
-use lib.ListN.{length, replicate, take}
 use Rattle.answer.proofs.Laws.{fill-next, fill_end, fill-full}
 use Rattle.answer.proofs.target_from.Goals as goal
-
-pub loop-len-init : goal.loop-len-init
-loop-len-init c = (omega arith, omega arith, refl)
 
 pub loop-len-preserved : goal.loop-len-preserved
 loop-len-preserved c = (omega arith, omega arith, fill-next c.args.name.now c.loop-len.bytes c.loop-len.len (omega arith) (omega arith) c.loop-len.invariant.2)

@@ -1,10 +1,7 @@
-use borrow.Author.Rules.{rules}
 use Prim.Native.Nat.{◌-◌, ◌≤◌}
-use mathlib.Core.Path.{◌≡◌, refl}
+use mathlib.Core.Path.{◌≡◌}
 use mathlib.Core.List.{◌++◌}
-use native.Mathlib.Omega.{arith}
 use lib.ListN.{length, replicate, take}
-use Rattle.answer.proofs.Laws.{fill-next, fill_end, fill-full}
 use Rattle.answer.proofs.target_from.Given as goal
 
 abbrev pub invariant-loop-len : goal.invariant-loop-len

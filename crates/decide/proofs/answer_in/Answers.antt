@@ -9,7 +9,6 @@ use Rattle.answer.specs.Parts.{answer_to}
 use Rattle.answer.proofs.Laws.{answer-gathered}
 use Rattle.weigh.proofs.Laws.{gathered-fit}
 use Rattle.decide.proofs.Laws.{answer-by}
-use borrow.Author.Rules.{rules}
 use Rattle.decide.proofs.answer_in.Goals as goal
 
 pub returns-in_default : goal.returns-in_default
@@ -23,6 +22,6 @@ returns c =
     let vs = env c.args.text.now c.args.vars.now c.args.n in
     let q : Access = record { path = c.args.path.now; owner = c.args.owner } in
     c.finish.ensures
-    ∙ ap (λ (w : Weighed). answer_to w c.args.asked.0) (c.findings_of-found.ensures ∙ gathered-fit c.args.text.now vs q c.in-Rules.rules c.in-Rules.at.0 c.requires.1)
+    ∙ ap (λ (w : Weighed). answer_to w c.args.asked.0) (c.findings_of-found.ensures ∙ gathered-fit c.args.text.now vs q c.in-Rules.rules c.in-Rules.at.0 c.requires.fits)
     ∙ answer-gathered (findings vs q (rules_from c.in-Rules.rules (pattern_fault vs) c.args.text.now c.in-Rules.at.0)) c.args.asked.0
     ∙ sym (answer-by vs q c.args.asked.0 c.args.text.now c.args.profiles.now c.args.count c.args.name.now c.find-r.result c.find-r.ensures _ c.in-Rules.is)

@@ -2,7 +2,6 @@ use mathlib.Core.Path.{sym, ap, ◌∙◌}
 use Rattle.profile.specs.Profiles.{file_of}
 use Rattle.answer.specs.Answers.{refusal}
 use Rattle.decide.proofs.Laws.{answer-accepted, answer-asked, answer-long, answer-path, answer-rejected, good-fits}
-use borrow.Author.Rules.{rules}
 use Rattle.decide.proofs.decide.Goals as goal
 
 pub returns-then-text-gt65535 : goal.returns-then-text-gt65535

@@ -1,17 +1,10 @@
-use borrow.Author.Rules.{rules}
 use native.Mathlib.Omega.{arith}
-use Prim.Native.Nat.{ℕ, suc, ◌+◌, ◌-◌, ◌≤◌}
+use Prim.Native.Nat.{ℕ, suc, ◌+◌, ◌-◌}
 use mathlib.Core.Path.{◌≡◌, sym, ap, ◌∙◌}
 use mathlib.Core.List.{List}
 use Rattle.scan.specs.Bytes.{same}
-use Rattle.decide.specs.Places.{found_from}
 use Rattle.decide.proofs.Laws.{found_here, found-later, found_none}
 use Rattle.decide.proofs.find.Goals as goal
-
-pub loop-i-init : goal.loop-i-init
-loop-i-init c =
-    let e : c.args.n ≡ c.args.n - 0 = omega arith in
-    (search rules, (omega arith, ap (λ (k : ℕ). found_from c.args.text.now c.args.table.now k 0 c.args.name.now) e))
 
 pub returns-then-same_bytes : goal.returns-then-same_bytes
 returns-then-same_bytes c =

@@ -1,11 +1,6 @@
-use borrow.Author.Rules.{rules}
-use native.Mathlib.Omega.{arith}
-use Prim.Native.Nat.{ℕ, suc, ◌+◌, ◌-◌, ◌≤◌}
-use mathlib.Core.Path.{◌≡◌, sym, ap, ◌∙◌}
-use mathlib.Core.List.{List}
-use Rattle.scan.specs.Bytes.{same}
+use Prim.Native.Nat.{◌-◌, ◌≤◌}
+use mathlib.Core.Path.{◌≡◌}
 use Rattle.decide.specs.Places.{found_from}
-use Rattle.decide.proofs.Laws.{found_here, found-later, found_none}
 use Rattle.decide.proofs.find.Given as goal
 
 abbrev pub invariant-loop-i : goal.invariant-loop-i

@@ -1,5 +1,4 @@
 use Rattle.findings.specs.Weighed.{allowing, seen_findings}
-use borrow.Author.Rules.{rules}
 use Rattle.findings.proofs.allow.Goals as goal
 
 pub returns : goal.returns

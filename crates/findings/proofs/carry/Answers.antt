@@ -2,7 +2,6 @@ use mathlib.Core.Path.{ap, ◌∙◌}
 use native.Mathlib.Omega.{arith}
 use Rattle.perms.proofs.Laws.{or-unite}
 use Rattle.perms.specs.declared.Perms.{Perms}
-use borrow.Author.Rules.{rules}
 use Rattle.findings.proofs.carry.Goals as goal
 
 pub returns-then-audit : goal.returns-then-audit

@@ -1,5 +1,4 @@
 use Rattle.findings.specs.Weighed.{denying, seen_choice, seen_findings}
-use borrow.Author.Rules.{rules}
 use Rattle.findings.proofs.deny.Goals as goal
 
 pub returns : goal.returns

@@ -1,5 +1,4 @@
 use Rattle.findings.specs.Weighed.{seen_choice}
-use borrow.Author.Rules.{rules}
 use Rattle.findings.proofs.with_move.Goals as goal
 
 pub returns-then-same_move : goal.returns-then-same_move

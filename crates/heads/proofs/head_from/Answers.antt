@@ -4,7 +4,6 @@ use lib.Dec.{leb, ltb}
 use lib.ListN.{length}
 use Rattle.scan.specs.Bytes.{span}
 use Rattle.heads.specs.Places.{head_from, seen_head, seen_open}
-use borrow.Author.Rules.{rules}
 use Rattle.heads.proofs.head_from.Goals as goal
 
 pub returns-then-n-name : goal.returns-then-n-name

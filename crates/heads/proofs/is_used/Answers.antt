@@ -1,14 +1,8 @@
-use borrow.Author.Rules.{rules}
 use native.Mathlib.Omega.{arith}
-use Prim.Native.Nat.{◌≤◌, min}
-use mathlib.Core.Path.{◌≡◌, sym, ap₂, ◌∙◌}
-use Rattle.scan.specs.Bytes.{same, some, span}
-use Rattle.heads.specs.Places.{names_of}
+use mathlib.Core.Path.{sym, ap₂, ◌∙◌}
+use Rattle.scan.specs.Bytes.{same, span}
 use Rattle.heads.proofs.Laws.{names-hit, names-miss, names-none}
 use Rattle.heads.proofs.is_used.Goals as goal
-
-pub loop-i-init : goal.loop-i-init
-loop-i-init c = (omega (arith, c.least-i.ensures), rw c.least-i.ensures)
 
 pub returns-then-same_bytes : goal.returns-then-same_bytes
 returns-then-same_bytes c = sym (names-hit c.args.text.now c.args.table.now (span c.args.text.now c.args.a c.args.e) c.loop-i.i (omega arith) (sym (c.same_bytes.ensures ∙ ap₂ same c.span-name.ensures c.span.ensures) ∙ c.if-same_bytes.true)) ∙ c.loop-i.invariant.1

@@ -1,10 +1,7 @@
-use borrow.Author.Rules.{rules}
-use native.Mathlib.Omega.{arith}
 use Prim.Native.Nat.{◌≤◌, min}
-use mathlib.Core.Path.{◌≡◌, sym, ap₂, ◌∙◌}
+use mathlib.Core.Path.{◌≡◌}
 use Rattle.scan.specs.Bytes.{same, some, span}
 use Rattle.heads.specs.Places.{names_of}
-use Rattle.heads.proofs.Laws.{names-hit, names-miss, names-none}
 use Rattle.heads.proofs.is_used.Given as goal
 
 abbrev pub invariant-loop-i : goal.invariant-loop-i

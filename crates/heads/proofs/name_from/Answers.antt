@@ -1,12 +1,12 @@
 use Rattle.tokens.specs.Places.{seen}
 use Rattle.tokens.proofs.Laws.{no-token}
+use Rattle.rule_tail.proofs.Laws.{not-token}
 use Rattle.heads.specs.Places.{name_from}
-use borrow.Author.Rules.{rules}
 use Rattle.heads.proofs.name_from.Goals as goal
 
 pub returns-in_default : goal.returns-in_default
 unfolding name_from seen
-returns-in_default c = rw (← c.next_token-token.ensures, no-token c.args.text.now c.next_token-token.result c.in_default.in_default-own.keys2, name_from)
+returns-in_default c = rw (← c.next_token-token.ensures, no-token c.args.text.now c.next_token-token.result (not-token _ c.in_default.not-Found), name_from)
 
 pub returns-then-rooted-begins_at : goal.returns-then-rooted-begins_at
 unfolding name_from seen

@@ -6,10 +6,10 @@ use Rattle.scan.specs.Bytes.{bytes}
 use Rattle.blanks.specs.Blanks.{standing}
 use Rattle.tokens.specs.Places.{seen}
 use Rattle.tokens.proofs.Laws.{no-token}
+use Rattle.rule_tail.proofs.Laws.{not-token}
 use Rattle.blanks.proofs.Laws.{stands-inside}
 use Rattle.heads.specs.Heads.{open_at}
 use Rattle.heads.specs.Places.{seen_open}
-use borrow.Author.Rules.{rules}
 use Rattle.heads.proofs.open_at.Goals as goal
 
 pub overflow_add-result : goal.overflow_add-result
@@ -24,7 +24,7 @@ returns-then-stands_at c = rw (c.standing_at-brace.ensures, ← c.stands_at.ensu
 
 pub returns-in_default : goal.returns-in_default
 unfolding open_at seen_open bytes
-returns-in_default c = rw (← c.stands_at.ensures, c.if-stands_at.false, ← c.next_token-token.ensures, no-token c.args.text.now c.next_token-token.result c.in_default.in_default-own.keys2, c.stop_of.ensures, open_at)
+returns-in_default c = rw (← c.stands_at.ensures, c.if-stands_at.false, ← c.next_token-token.ensures, no-token c.args.text.now c.next_token-token.result (not-token _ c.in_default.not-Found), c.stop_of.ensures, open_at)
 
 pub returns : goal.returns
 unfolding open_at seen seen_open bytes

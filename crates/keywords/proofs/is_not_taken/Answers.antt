@@ -1,5 +1,5 @@
+use borrow.Author.Rules.{rules}
 use mathlib.Core.Path.{refl, sym, ◌∙◌}
-use borrow.Enum.Refused.{opened}
 use Rattle.tokens.specs.Places.{seen}
 use Rattle.tokens.proofs.Laws.{not_found}
 use Rattle.keywords.specs.Keywords.{barred, word_is}
@@ -12,7 +12,7 @@ returns-then-not-may_begin c = none-at c.args.inside c.args.text.now c.args.at.0
 pub returns-in_default : goal.returns-in_default
 returns-in_default c =
     let k = c.next_token-r.ensures ∙ same-token c.args.inside c.args.text.now c.args.at.0 c.standing_at-place.result.0 c.standing_at-place.ensures in
-    rw (← k) (sym (not_found c.args.text.now c.next_token-r.result (opened c.in_default.in_default-own.keys2) (word_is (barred c.args.inside)) (λ n p. refl) (λ p. refl)))
+    rw (← k) (sym (not_found c.args.text.now c.next_token-r.result (search rules) (word_is (barred c.args.inside)) (λ n p. refl) (λ p. refl)))
 
 pub returns : goal.returns
 unfolding seen

@@ -1,10 +1,7 @@
-use borrow.Author.Rules.{rules}
-use native.Mathlib.Omega.{arith}
 use Prim.Native.Nat.{◌+◌, ◌-◌, ◌≤◌}
-use mathlib.Core.Path.{◌≡◌, ap, ◌∙◌}
+use mathlib.Core.Path.{◌≡◌}
 use lib.ListN.{length, replicate}
-use lib.Seq.{paste, paste-zero}
-use Rattle.layout.proofs.Laws.{cleared-length, cleared-next}
+use lib.Seq.{paste}
 use Rattle.layout.proofs.clear.Given as goal
 
 abbrev pub invariant-loop-i : goal.invariant-loop-i

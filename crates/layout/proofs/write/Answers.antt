@@ -3,7 +3,6 @@ use mathlib.Core.Path.{ap₂, ◌∙◌}
 use Rattle.text.specs.declared.Refusal.{Refusal}
 use Rattle.layout.specs.Layout.{head_by}
 use Rattle.layout.proofs.Laws.{laid-whole}
-use borrow.Author.Rules.{rules}
 use Rattle.layout.proofs.write.Goals as goal
 
 pub returns : goal.returns

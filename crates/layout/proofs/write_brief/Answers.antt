@@ -6,7 +6,6 @@ use Rattle.layout.proofs.Laws.{brief-short, laid-brief}
 use lib.ListN.{length}
 use mathlib.Core.List.{List}
 use mathlib.Core.Path.{ap, ap₂, ◌∙◌}
-use borrow.Author.Rules.{rules}
 use Rattle.layout.proofs.write_brief.Goals as goal
 
 pub lay-requires : goal.lay-requires

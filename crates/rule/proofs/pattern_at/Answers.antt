@@ -1,8 +1,8 @@
 use Rattle.scan.specs.Bytes.{bytes}
 use Rattle.tokens.specs.Places.{seen}
 use Rattle.tokens.proofs.Laws.{no-token}
+use Rattle.rule_tail.proofs.Laws.{not-token}
 use Rattle.rule.specs.Rules.{pattern_from}
-use borrow.Author.Rules.{rules}
 use Rattle.rule.proofs.pattern_at.Goals as goal
 
 pub returns-then-is_not_taken : goal.returns-then-is_not_taken
@@ -11,7 +11,7 @@ returns-then-is_not_taken c = rw (← c.is_not_taken.ensures, c.if-is_not_taken.
 
 pub returns-in_default : goal.returns-in_default
 unfolding pattern_from seen bytes
-returns-in_default c = rw (← c.is_not_taken.ensures, c.if-is_not_taken.false, no-token c.args.text.now c.args.q.token c.in_default.in_default-own.keys2, pattern_from)
+returns-in_default c = rw (← c.is_not_taken.ensures, c.if-is_not_taken.false, no-token c.args.text.now c.args.q.token (not-token _ c.in_default.not-Found), pattern_from)
 
 pub returns-then-q-is_word : goal.returns-then-q-is_word
 unfolding pattern_from seen bytes

@@ -1,7 +1,6 @@
 use Rattle.scan.specs.Bytes.{bytes}
 use Rattle.rule.specs.Places.{seen_optional}
 use Rattle.rule.proofs.Laws.{qualified}
-use borrow.Author.Rules.{rules}
 use Rattle.rule.proofs.qualifiers_at.Goals as goal
 
 pub returns : goal.returns

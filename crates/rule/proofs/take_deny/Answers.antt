@@ -1,9 +1,5 @@
 use Rattle.scan.specs.Bytes.{bytes}
-use borrow.Author.Rules.{rules}
 use Rattle.rule.proofs.take_deny.Goals as goal
-
-pub returns-then-allow : goal.returns-then-allow
-returns-then-allow c = λ k. record { is = rw c.if-allow.true; token = k }
 
 pub returns : goal.returns
 unfolding bytes

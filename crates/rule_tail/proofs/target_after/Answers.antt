@@ -1,13 +1,13 @@
 use Rattle.tokens.specs.Places.{seen}
 use Rattle.tokens.proofs.Laws.{no-token}
+use Rattle.rule_tail.proofs.Laws.{not-token}
 use borrow.Author.Tests.{lt-ltb, le-ltb}
 use Rattle.rule_tail.specs.Places.{seen_target, target_after}
-use borrow.Author.Rules.{rules}
 use Rattle.rule_tail.proofs.target_after.Goals as goal
 
 pub returns-in_default : goal.returns-in_default
 unfolding target_after seen seen_target
-returns-in_default c = rw (← c.next_token-r.ensures, no-token c.args.text.now c.next_token-r.result c.in_default.in_default-own.keys2, c.stop_of.ensures, target_after)
+returns-in_default c = rw (← c.next_token-r.ensures, no-token c.args.text.now c.next_token-r.result (not-token _ c.in_default.not-Found), c.stop_of.ensures, target_after)
 
 pub returns-then-not-name_form : goal.returns-then-not-name_form
 unfolding target_after seen seen_target

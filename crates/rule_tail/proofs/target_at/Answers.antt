@@ -7,7 +7,6 @@ use Rattle.blanks.specs.Blanks.{standing}
 use Rattle.rule_tail.specs.Tails.{target_at}
 use Rattle.rule_tail.specs.Places.{seen_target, target_after}
 use Rattle.blanks.proofs.Laws.{stands-inside}
-use borrow.Author.Rules.{rules}
 use Rattle.rule_tail.proofs.target_at.Goals as goal
 
 pub overflow_add-from : goal.overflow_add-from

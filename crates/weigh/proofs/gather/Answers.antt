@@ -1,4 +1,3 @@
-use borrow.Author.Rules.{rules}
 use native.Mathlib.Omega.{arith}
 use Prim.Native.Nat.{ℕ, suc, ◌+◌, ◌≤◌, ◌-◌}
 use mathlib.Core.Path.{◌≡◌, sym, ap, ◌∙◌}
@@ -17,21 +16,14 @@ use Rattle.weigh.specs.Weigh.{weighed_by}
 use Rattle.weigh.proofs.Laws.{gathered, gathered-rules, gather-more, gather-close, gather-refused, gather-end, read-good}
 use Rattle.weigh.proofs.gather.Goals as goal
 
-pub loop-i-init : goal.loop-i-init
-loop-i-init c =
-    let e : c.args.count - 0 ≡ c.args.count = omega arith in (omega arith, rw (e, c.no_findings-found.ensures c.args.text.now))
-
-pub overflow_add-i : goal.overflow_add-i
-overflow_add-i c = omega (arith, c.UNKNOWN_well-formed.1.1.1.1.1.1.0)
-
 pub loop-i-preserved : goal.loop-i-preserved
 loop-i-preserved c =
     let vs = env c.args.text.now c.args.vars.now c.args.n in
     let w = seen_findings c.args.text.now c.loop-i.found in
-    let step = c.rule_at-r.ensures.result_value ∙ ap (λ (f : List ℕ → ℕ). rule_at f c.args.text.now c.loop-i.place.0) (faults-known c.requires.0) in
+    let step = c.rule_at-r.ensures.result_value ∙ ap (λ (f : List ℕ → ℕ). rule_at f c.args.text.now c.loop-i.place.0) (faults-known c.requires.known) in
     let e : c.args.count - c.loop-i.i ≡ suc (c.args.count - (c.loop-i.i + 1)) = omega arith in (
       omega arith,
-      rw (c.weigh-found.ensures ∙ ap (λ (m : Matched). weighed_by c.args.owner m (rule_of c.args.text.now c.in-Rule.rule) w) (matched-known c.requires.0 (span_of c.args.text.now c.in-Rule.rule.pattern) c.args.path.now (read-good vs c.args.text.now c.loop-i.place.0 step c.in-Rule.is)))
+      rw (c.weigh-found.ensures ∙ ap (λ (m : Matched). weighed_by c.args.owner m (rule_of c.args.text.now c.in-Rule.rule) w) (matched-known c.requires.known (span_of c.args.text.now c.in-Rule.rule.pattern) c.args.path.now (read-good vs c.args.text.now c.loop-i.place.0 step c.in-Rule.is)))
           (sym (gather-more vs c.args.text.now c.args.path.now c.args.owner c.loop-i.place.0 w (c.args.count - (c.loop-i.i + 1)) step c.in-Rule.is)
           ∙ (rw e at c.loop-i.invariant.1)),
     )
@@ -41,18 +33,18 @@ returns-in-Close c =
     let vs = env c.args.text.now c.args.vars.now c.args.n in
     let w = seen_findings c.args.text.now c.loop-i.found in
     let e : c.args.count - c.loop-i.i ≡ suc (c.args.count - (c.loop-i.i + 1)) = omega arith in
-    sym (gather-close vs c.args.text.now c.args.path.now c.args.owner c.loop-i.place.0 w (c.args.count - (c.loop-i.i + 1)) (c.rule_at-r.ensures.result_value ∙ ap (λ (f : List ℕ → ℕ). rule_at f c.args.text.now c.loop-i.place.0) (faults-known c.requires.0)) c.in-Close.is)
+    sym (gather-close vs c.args.text.now c.args.path.now c.args.owner c.loop-i.place.0 w (c.args.count - (c.loop-i.i + 1)) (c.rule_at-r.ensures.result_value ∙ ap (λ (f : List ℕ → ℕ). rule_at f c.args.text.now c.loop-i.place.0) (faults-known c.requires.known)) c.in-Close.is)
     ∙ (rw e at c.loop-i.invariant.1)
-    ∙ gathered-rules c.args.text.now vs (record { path = c.args.path.now; owner = c.args.owner }) c.requires.1 c.args.count c.args.at.0
+    ∙ gathered-rules c.args.text.now vs (record { path = c.args.path.now; owner = c.args.owner }) c.requires.fits c.args.count c.args.at.0
 
 pub returns-in-Refused : goal.returns-in-Refused
 returns-in-Refused c =
     let vs = env c.args.text.now c.args.vars.now c.args.n in
     let w = seen_findings c.args.text.now c.loop-i.found in
     let e : c.args.count - c.loop-i.i ≡ suc (c.args.count - (c.loop-i.i + 1)) = omega arith in
-    sym (gather-refused vs c.args.text.now c.args.path.now c.args.owner c.loop-i.place.0 w (c.args.count - (c.loop-i.i + 1)) (c.rule_at-r.ensures.result_value ∙ ap (λ (f : List ℕ → ℕ). rule_at f c.args.text.now c.loop-i.place.0) (faults-known c.requires.0)) c.in-Refused.is)
+    sym (gather-refused vs c.args.text.now c.args.path.now c.args.owner c.loop-i.place.0 w (c.args.count - (c.loop-i.i + 1)) (c.rule_at-r.ensures.result_value ∙ ap (λ (f : List ℕ → ℕ). rule_at f c.args.text.now c.loop-i.place.0) (faults-known c.requires.known)) c.in-Refused.is)
     ∙ (rw e at c.loop-i.invariant.1)
-    ∙ gathered-rules c.args.text.now vs (record { path = c.args.path.now; owner = c.args.owner }) c.requires.1 c.args.count c.args.at.0
+    ∙ gathered-rules c.args.text.now vs (record { path = c.args.path.now; owner = c.args.owner }) c.requires.fits c.args.count c.args.at.0
 
 pub returns : goal.returns
 returns c =
@@ -61,4 +53,4 @@ returns c =
     let e : c.args.count - c.loop-i.i ≡ 0 = omega arith in
     sym (gather-end vs c.args.text.now c.args.path.now c.args.owner c.loop-i.place.0 w)
     ∙ (rw e at c.loop-i.invariant.1)
-    ∙ gathered-rules c.args.text.now vs (record { path = c.args.path.now; owner = c.args.owner }) c.requires.1 c.args.count c.args.at.0
+    ∙ gathered-rules c.args.text.now vs (record { path = c.args.path.now; owner = c.args.owner }) c.requires.fits c.args.count c.args.at.0

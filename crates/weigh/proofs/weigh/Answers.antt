@@ -2,7 +2,6 @@ use mathlib.Core.Path.{◌∙◌}
 use Rattle.rule.specs.Places.{rule_of}
 use Rattle.findings.specs.Weighed.{seen_findings}
 use Rattle.weigh.proofs.Laws.{weigh-not-owner, weigh-unmatched, weigh-denied, weigh-allowed}
-use borrow.Author.Rules.{rules}
 use Rattle.weigh.proofs.weigh.Goals as goal
 
 pub returns-then-rule-owner : goal.returns-then-rule-owner
