@@ -1,4 +1,3 @@
-pub mod Records
 pub mod Rows
 pub mod Laws
 pub mod Filling

@@ -23,10 +23,10 @@ pub returns-then-not-is_good_end : goal.returns-then-not-is_good_end
 returns-then-not-is_good_end c =
     let vs = env c.args.text.now c.args.head.now c.args.variables in
     let q : Access = record { path = c.args.path.now; owner = c.args.owner } in
-    match-bad c.args.text.now vs q (rule_of c.args.text.now c.args.rule) (sym c.is_good_end.ensures ∙ not-true _ c.if-not-is_good_end.true)
+    match-bad c.args.text.now vs q (rule_of c.args.text.now c.args.rule) (sym c.is_good_end.ensures ∙ c.if-not-is_good_end.true)
 
 pub returns : goal.returns
 returns c =
     let vs = env c.args.text.now c.args.head.now c.args.variables in
     let q : Access = record { path = c.args.path.now; owner = c.args.owner } in
-    match-some c.args.text.now vs q (rule_of c.args.text.now c.args.rule) c.match_pattern-m.ensures c.if-rule-owner.false (not-false _ c.if-not-m.false) (sym c.is_good_end.ensures ∙ not-false _ c.if-not-is_good_end.false)
+    match-some c.args.text.now vs q (rule_of c.args.text.now c.args.rule) c.match_pattern-m.ensures c.if-rule-owner.false (not-false _ c.if-not-m.false) (sym c.is_good_end.ensures ∙ c.if-not-is_good_end.false)

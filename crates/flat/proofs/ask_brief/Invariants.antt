@@ -12,8 +12,8 @@ use Rattle.flat.proofs.ask_brief.Given as goal
 
 abbrev pub invariant-loop-k : goal.invariant-loop-k
 invariant-loop-k l = (l.k ≤ l.n)
-    × (onwards l.text (env l.text l.memory l.query.variables) (record { l.path = l.path; l.owner = l.query.owner }) l.words l.profile l.memory l.n l.k (seen_findings l.text l.found)
-    ≡ onwards l.text (env l.text l.memory l.query.variables) (record { l.path = l.path; l.owner = l.query.owner }) l.words l.profile l.memory l.n 0 nothing)
+    × (onwards l.text (env l.text l.memory l.query.variables) (record { path = l.path; owner = l.query.owner }) l.words l.profile l.memory l.n l.k (seen_findings l.text l.found)
+    ≡ onwards l.text (env l.text l.memory l.query.variables) (record { path = l.path; owner = l.query.owner }) l.words l.profile l.memory l.n 0 nothing)
 
 abbrev pub decreases-loop-k : goal.decreases-loop-k
 decreases-loop-k l = l.n - l.k

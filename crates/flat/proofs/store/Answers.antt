@@ -27,5 +27,5 @@ pub returns : goal.returns
 returns c =
     let e : c.loop-j.j ≡ 12 = omega arith in
     let p : c.loop-j.memory ≡ paste c.args.memory.now c.args.at (encoded c.args.«record») 12 =
-    c.loop-j.invariant.1 ∙ ap₂ (λ (x : List ℕ) (k : ℕ). paste c.args.memory.now c.args.at x k) c.encode-words.ensures.same.0 e in
-    (p, ap (λ (x : List ℕ). record_at x c.args.at) p ∙ record-back c.args.memory.now c.args.at c.args.«record» (omega arith) c.encode-words.ensures.same.1)
+    c.loop-j.invariant.1 ∙ ap₂ (λ (x : List ℕ) (k : ℕ). paste c.args.memory.now c.args.at x k) c.encode-words.ensures.same e in
+    record { pasted = p; back = ap (λ (x : List ℕ). record_at x c.args.at) p ∙ record-back c.args.memory.now c.args.at c.args.«record» (omega arith) c.encode-words.ensures.byte }
