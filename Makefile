@@ -35,7 +35,7 @@ all: $(archive) $(shared) $(command)
 	@echo "built: $(command), $(archive), $(shared)"
 
 ifeq ($(ARCHIVE),)
-$(archive): crates.txt $(shell find crates -name '*.rt' -o -name '*.antt')
+$(archive): crates.txt $(shell find crates -name out -prune -o \( -name '*.rt' -o -name '*.antt' \) -print)
 	tools/archive
 else ifneq ($(notdir $(ARCHIVE)),libsidluqethe.a)
 $(error ARCHIVE names a file libsidluqethe.a)
@@ -77,7 +77,7 @@ check:
 	.ci/run
 
 clean:
-	rm -rf target rust/target
+	rm -rf target rust/target crates/*/out
 
 FORCE:
 .PHONY: all install uninstall check clean FORCE

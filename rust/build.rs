@@ -2,9 +2,9 @@
 //!
 //! Where `SIDLUQETHE_LIB_DIR` is set, it is the archive in that folder: that
 //! of an installed library is `PREFIX/lib`. Otherwise the package stands in a
-//! checkout, and `rt staticlib sidluqethe` makes the archive there whenever a
-//! source of it has changed; this script copies it into `OUT_DIR` and writes
-//! nothing else.
+//! checkout, and `rt lib` in `crates/sidluqethe` makes the archive there
+//! whenever a source of it has changed; this script copies it into `OUT_DIR`
+//! and writes nothing else.
 //!
 //! A package with C of its own that depends on this one finds the header's
 //! folder in `DEP_SIDLUQETHE_INCLUDE` and the archive's in
@@ -77,15 +77,13 @@ fn made_folder() -> Result<(PathBuf, PathBuf), String> {
     for source in sources {
         println!("cargo:rerun-if-changed={}", source.display());
     }
-    make(root)?;
-    let made = root.join("target").join("staticlib").join(ARCHIVE);
+    let made_in = root.join("crates").join(sources::CRATE);
+    make(&made_in)?;
+    let made = made_in.join("out").join(ARCHIVE);
     let folder = PathBuf::from(variable("OUT_DIR")?);
     fs::copy(&made, folder.join(ARCHIVE)).map_err(|e| {
         let made = made.display();
-        format!(
-            "`rt staticlib {}` ended well, but {made}: {e}",
-            sources::CRATE
-        )
+        format!("`rt lib` ended well, but {made}: {e}")
     })?;
     Ok((folder, root.join("include")))
 }
@@ -94,10 +92,10 @@ fn variable(name: &str) -> Result<std::ffi::OsString, String> {
     env::var_os(name).ok_or(format!("{name} is not set: cargo runs this script"))
 }
 
-/// Has `rt` make the archive.
-fn make(root: &Path) -> Result<(), String> {
-    let call = format!("`rt staticlib {}` in {}", sources::CRATE, root.display());
-    match run(root) {
+/// Has `rt` make the archive in the folder of its crate.
+fn make(folder: &Path) -> Result<(), String> {
+    let call = format!("`rt lib` in {}", folder.display());
+    match run(folder) {
         Ok(status) if status.success() => Ok(()),
         Ok(status) => Err(format!("{call} failed ({status}); its output stands above")),
         Err(error) => Err(format!(
@@ -108,10 +106,10 @@ fn make(root: &Path) -> Result<(), String> {
 
 /// Runs `rt`; what it says goes to this script's standard error, since cargo
 /// reads the standard output.
-fn run(root: &Path) -> io::Result<ExitStatus> {
+fn run(folder: &Path) -> io::Result<ExitStatus> {
     let mut child = Command::new("rt")
-        .args(["staticlib", sources::CRATE])
-        .current_dir(root)
+        .arg("lib")
+        .current_dir(folder)
         .stdin(Stdio::null())
         .stdout(Stdio::piped())
         .spawn()?;

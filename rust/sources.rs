@@ -11,7 +11,7 @@ pub const CRATE: &str = "sidluqethe";
 pub fn sources(root: &Path) -> Result<Vec<PathBuf>, String> {
     let list = root.join("crates.txt");
     let text = fs::read_to_string(&list).map_err(|e| format!("{}: {e}", list.display()))?;
-    let names = names(&text).ok_or(format!("{}: no line `{CRATE}:`", list.display()))?;
+    let names = names(&text).ok_or(format!("{}: no line `{CRATE} staticlib:`", list.display()))?;
     let mut sources = vec![list];
     for name in names {
         // A name without a folder is a crate of the toolchain.
@@ -26,6 +26,6 @@ pub fn sources(root: &Path) -> Result<Vec<PathBuf>, String> {
 fn names(list: &str) -> Option<Vec<&str>> {
     let used = list
         .lines()
-        .find_map(|line| line.strip_prefix(CRATE)?.strip_prefix(':'))?;
+        .find_map(|line| line.strip_prefix(CRATE)?.strip_prefix(" staticlib:"))?;
     Some([CRATE].into_iter().chain(used.split_whitespace()).collect())
 }

@@ -35,7 +35,7 @@ fn archive_is_not_older_than_its_sources() {
     let newer: Vec<&PathBuf> = files.iter().filter(|file| changed(file) > made).collect();
     assert!(
         newer.is_empty(),
-        "{} is older than {} of its sources, {} among them: run `rt staticlib sidluqethe`",
+        "{} is older than {} of its sources, {} among them: run `tools/archive`",
         archive.display(),
         newer.len(),
         newer[0].display()

@@ -8,7 +8,7 @@ use std::path::{Path, PathBuf};
 use std::process::Command;
 
 /// Its crates: `other` is not named by the archive's.
-const CRATES: &str = "flat:\nother: flat\nsidluqethe: flat io\n";
+const CRATES: &str = "flat:\nother: flat\nsidluqethe staticlib: flat io\n";
 
 struct Checkout(PathBuf);
 
@@ -35,13 +35,14 @@ impl Checkout {
         fs::write(path, text).unwrap();
     }
 
-    /// A `rt` that notes each call and puts an archive where `rt` puts it.
+    /// A `rt` that notes each call, by its words and its crate's folder, and
+    /// puts an archive where `rt` puts it.
     fn write_rt(&self) {
-        let made = "mkdir -p target/staticlib && cp";
+        let noted = "echo \"$@ in ${PWD##*/}\" >>../../calls";
         let archive = env!("SIDLUQETHE_ARCHIVE");
         self.write(
             "bin/rt",
-            &format!("#!/bin/sh\necho \"$@\" >>calls\necho proving\n{made} '{archive}' target/staticlib\n"),
+            &format!("#!/bin/sh\n{noted}\necho proving\nmkdir -p out && cp '{archive}' out\n"),
         );
         let rt = self.0.join("bin/rt");
         fs::set_permissions(rt, fs::Permissions::from_mode(0o755)).unwrap();
@@ -74,7 +75,7 @@ impl Checkout {
     /// How often `rt` was called, always in the same way.
     fn calls(&self) -> usize {
         let calls = fs::read_to_string(self.0.join("calls")).unwrap_or_default();
-        assert!(calls.lines().all(|call| call == "staticlib sidluqethe"));
+        assert!(calls.lines().all(|call| call == "lib in sidluqethe"));
         calls.lines().count()
     }
 
@@ -102,6 +103,9 @@ fn copy(from: &Path, to: &Path) {
 }
 
 fn add_files(path: &Path, files: &mut Vec<(PathBuf, Vec<u8>)>) {
+    if path.ends_with("crates/sidluqethe/out") {
+        return;
+    }
     if path.is_file() {
         files.push((path.to_path_buf(), fs::read(path).unwrap()));
         return;
@@ -162,10 +166,7 @@ fn what_fails_says_what_to_do() {
 
     fs::remove_dir_all(checkout.0.join("bin")).unwrap();
     let said = checkout.build(None).unwrap_err();
-    assert!(
-        said.contains("cannot start `rt staticlib sidluqethe`"),
-        "{said}"
-    );
+    assert!(said.contains("cannot start `rt lib`"), "{said}");
     assert!(
         said.contains("README.md") && said.contains("PREFIX/lib"),
         "{said}"

@@ -1,12 +1,13 @@
 // Holds a pattern to a path many times, to be timed. Call: bench CASE TURNS
 #![tactic(auto)]
 
-ghost use Rattle.std.specs.Prelude.{◌+◌, ◌≤◌, length};
+ghost use Rattle.std.specs.Prelude.{◌≡◌, ◌+◌, ◌≤◌, length, take};
 
 use faults::pattern_fault;
 use glob::match_good;
-use libc::{STDERR_FILENO, STDOUT_FILENO};
 use scan::{same_bytes, span};
+use std::io;
+use std::rt::Env;
 
 // Where the names of the variables stand in the text, a letter each; the patterns follow.
 const NAMES: usize = 3072;
@@ -185,26 +186,36 @@ fn matches(text: &[u8], vars: &[usize; 1120], case: Case, path: &[u8], turns: us
     hits
 }
 
-fn run(case: Case, turns: usize) {
+fn run(rt: &impl Print, case: Case, turns: usize) -> io::Result<()> {
     let text = new_text();
     let mut vars = [0; 1120];
     set_variables(&mut vars);
     let mut path = [b'a'; 4096];
     path[0] = b'/';
     let hits = matches(&text, &vars, case, span(&path, case.from, case.to), turns);
-    io::print_decimal(STDOUT_FILENO, hits as u64);
-    io::write_all(STDOUT_FILENO, b"\n");
+    println!(rt; "{hits}")
 }
 
-fn main() {
-    let mut name = io::buffer();
-    let m = os::arg(1, &mut name);
-    let mut count = io::buffer();
-    let k = os::arg(2, &mut count);
+// Puts an argument at the front of the buffer and says how many bytes it has: 0 where it is missing or longer than the buffer.
+fn argument(rt: &impl Env, i: usize, buffer: &mut [u8]) -> usize
+    ensures bound { result ≤ length buffer.new }
+    ensures front { result ≡ length (take result buffer.new) }
+{
+    match rt.arg(i, buffer) {
+        Ok(n) => n,
+        Err(_) => 0,
+    }
+}
+
+fn main(rt: HostRuntime) -> io::Result<()> {
+    let mut name = [0u8; 4096];
+    let m = argument(&rt, 1, &mut name);
+    let mut count = [0u8; 4096];
+    let k = argument(&rt, 2, &mut count);
     let case = case_of(&name[..m]);
     if 0 < case.to {
-        run(case, number(&count[..k]));
+        run(&rt, case, number(&count[..k]))
     } else {
-        io::write_all(STDERR_FILENO, b"call: bench CASE TURNS\n");
+        eprintln!(rt; "call: bench CASE TURNS")
     }
 }

@@ -3,15 +3,20 @@
 // its text; where that answer is another, it is written too.
 #![tactic(auto)]
 
-ghost use Rattle.std.specs.Prelude.{◌≤◌, ◌<◌};
-ghost use Rattle.io.specs.Counts.{IsPrefixLen};
+ghost use Rattle.std.specs.Prelude.{◌≡◌, ◌≤◌, ◌<◌, length, take, IfOk};
 
 use answer::{Answer, Verdict, refused};
 use decide::decide;
-use libc::STDIN_FILENO;
 use perms::Perms;
 use print::{put, put_execute, put_number, put_target};
+use std::io;
+use std::io::{BufReader, BufWriter, ErrorKind, Read, Write};
 use text::{Refusal, nowhere};
+
+// How many bytes a text or a path may have; a profile name.
+const LONG: usize = 65536;
+
+const SHORT: usize = 4096;
 
 // The value of a hex digit; of any other byte 0.
 fn digit(b: u8) -> u8
@@ -33,10 +38,18 @@ fn digit(b: u8) -> u8
 }
 
 // The next byte of the input; 0 behind its end.
-fn next_byte() -> u8 {
+fn next_byte<I: Read>(input: &mut I) -> io::Result<u8> {
     let mut one = [0u8; 1];
-    io::read_full(STDIN_FILENO, &mut one);
-    one[0]
+    match input.read_exact(&mut one) {
+        Ok(()) => Ok(one[0]),
+        Err(e) => {
+            if e.kind() == ErrorKind::UnexpectedEof {
+                Ok(0)
+            } else {
+                Err(e)
+            }
+        }
+    }
 }
 
 // Whether a field ends with this byte.
@@ -45,25 +58,27 @@ fn is_end(b: u8) -> bool {
 }
 
 // Reads the hex field that begins with this byte into out, and answers how many bytes it has.
-fn read_hex(first: u8, out: &mut [u8]) -> usize
-    ensures { IsPrefixLen result out.new }
+fn read_hex<I: Read>(input: &mut I, first: u8, out: &mut [u8]) -> io::Result<usize>
+    ensures bound { IfOk result (λ n. n ≤ length out.new) }
+    ensures front { IfOk result (λ n. n ≡ length (take n out.new)) }
 {
     let mut b = first;
     let mut n = 0;
     while n < out.len() {
         if is_end(b) {
-            return n;
+            return Ok(n);
         }
-        out[n] = digit(b) * 16 + digit(next_byte());
+        out[n] = digit(b) * 16 + digit(next_byte(input)?);
         n += 1;
-        b = next_byte();
+        b = next_byte(input)?;
     }
-    n
+    Ok(n)
 }
 
 // A number with one digit more; one of four digits stays.
 fn with_digit(n: usize, digit: usize) -> usize
-    requires { (n ≤ 10005) × (digit ≤ 15) }
+    requires low { n ≤ 10005 }
+    requires one { digit ≤ 15 }
     ensures { result ≤ 10005 }
 {
     if n < 1000 {
@@ -73,11 +88,11 @@ fn with_digit(n: usize, digit: usize) -> usize
 }
 
 // Reads a number of at most three digits, and answers it, or 255 where it is more.
-fn read_number() -> u8 {
+fn read_number<I: Read>(input: &mut I) -> io::Result<u8> {
     let mut n: usize = 0;
     let mut left: usize = 4;
     while 0 < left {
-        let b = next_byte();
+        let b = next_byte(input)?;
         if is_end(b) {
             left = 0;
         } else {
@@ -86,36 +101,36 @@ fn read_number() -> u8 {
         }
     }
     if n < 256 {
-        return n as u8;
+        return Ok(n as u8);
     }
-    255
+    Ok(255)
 }
 
 // Writes an answer's line.
-fn put_answer(a: Answer) {
+fn put_answer<W: Write>(out: &mut W, a: Answer) -> io::Result<()> {
     let verdict = a.verdict;
     let execute = a.execute;
     let target = a.target;
     let bytes = target.bytes;
     match verdict {
         Verdict::Refused(refusal) => {
-            put(b"refused\t");
-            put_number(refusal.number as u64);
-            put(b"\t");
-            put_number(refusal.line as u64);
-            put(b"\t");
-            put_number(refusal.column as u64);
-            put(b"\t-\n");
+            put(out, b"refused\t")?;
+            put_number(out, refusal.number as u64)?;
+            put(out, b"\t")?;
+            put_number(out, refusal.line as u64)?;
+            put(out, b"\t")?;
+            put_number(out, refusal.column as u64)?;
+            put(out, b"\t-\n")
         }
         Verdict::Answered => {
-            put_number(a.granted.0 as u64);
-            put(b"\t");
-            put_number(a.recorded.0 as u64);
-            put(b"\t");
-            put_execute(execute);
-            put(b"\t");
-            put_target(bytes, target.len, b"-");
-            put(b"\n");
+            put_number(out, a.granted.0 as u64)?;
+            put(out, b"\t")?;
+            put_number(out, a.recorded.0 as u64)?;
+            put(out, b"\t")?;
+            put_execute(out, execute)?;
+            put(out, b"\t")?;
+            put_target(out, bytes, target.len, b"-")?;
+            put(out, b"\n")
         }
     }
 }
@@ -173,28 +188,31 @@ fn is_same(a: Answer, b: Answer) -> bool {
 }
 
 // Writes an answer's line, and that of asking what was read where it is another.
-fn put_both(a: Answer, b: Answer) {
-    put_answer(a);
+fn put_both<W: Write>(out: &mut W, a: Answer, b: Answer) -> io::Result<()> {
+    put_answer(out, a)?;
     if !is_same(a, b) {
-        put(b"asked otherwise: ");
-        put_answer(b);
+        put(out, b"asked otherwise: ")?;
+        put_answer(out, b)?;
     }
+    Ok(())
 }
 
 // Answers the next request; false where there is none.
-fn request() -> bool {
-    let first = next_byte();
+fn request<I: Read, W: Write>(input: &mut I, out: &mut W) -> io::Result<bool> {
+    let first = next_byte(input)?;
     if first == 0 {
-        return false;
+        return Ok(false);
     }
-    let mut text = io::large_buffer();
-    let text_bytes = read_hex(first, &mut text);
-    let mut name = io::buffer();
-    let name_bytes = read_hex(next_byte(), &mut name);
-    let mut path = io::large_buffer();
-    let path_bytes = read_hex(next_byte(), &mut path);
-    let asked = read_number();
-    let owner = read_number() == 1;
+    let mut text = [0u8; LONG];
+    let text_bytes = read_hex(input, first, &mut text)?;
+    let mut name = [0u8; SHORT];
+    let name_first = next_byte(input)?;
+    let name_bytes = read_hex(input, name_first, &mut name)?;
+    let mut path = [0u8; LONG];
+    let path_first = next_byte(input)?;
+    let path_bytes = read_hex(input, path_first, &mut path)?;
+    let asked = read_number(input)?;
+    let owner = read_number(input)? == 1;
     let a = decide(
         &text[..text_bytes],
         &name[..name_bytes],
@@ -211,19 +229,25 @@ fn request() -> bool {
         Perms(asked),
         owner,
     );
-    put_both(a, b);
-    true
+    put_both(out, a, b)?;
+    out.flush()?;
+    Ok(true)
 }
 
-// Answers each request. A proved loop ends, so it counts down from a number that no run uses up.
-fn requests() {
-    let mut turns = u64::MAX;
-    while turns > 0 && request() {
-        turns -= 1;
+// Answers each request. A proved loop ends, so it counts to a number that no run reaches.
+fn requests<I: Read, W: Write>(input: &mut I, out: &mut W) -> io::Result<()> {
+    for _ in 0..u64::MAX {
+        if !request(input, out)? {
+            break;
+        }
     }
+    Ok(())
 }
 
-fn main() {
-    put(b"granted\trecorded\texecute\ttarget\n");
-    requests();
+fn main(rt: HostRuntime) -> io::Result<()> {
+    let mut input = BufReader::with_capacity(rt.alloc(), LONG, rt.reader())?;
+    let mut out = BufWriter::new(rt.alloc(), io::writer(&rt))?;
+    put(&mut out, b"granted\trecorded\texecute\ttarget\n")?;
+    out.flush()?;
+    requests(&mut input, &mut out)
 }
