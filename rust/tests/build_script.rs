@@ -5,7 +5,7 @@ use std::env;
 use std::fs;
 use std::os::unix::fs::PermissionsExt;
 use std::path::{Path, PathBuf};
-use std::process::Command;
+use std::process::{self, Command};
 
 /// Its crates: `other` is not named by the archive's.
 const CRATES: &str = "flat:\nother: flat\nsidluqethe staticlib: flat io\n";
@@ -14,7 +14,8 @@ struct Checkout(PathBuf);
 
 impl Checkout {
     fn new(name: &str) -> Checkout {
-        let root = Path::new(env!("CARGO_TARGET_TMPDIR")).join(name);
+        // Not below this repository, whose list of crates is the only one there.
+        let root = env::temp_dir().join(format!("sidluqethe-{name}-{}", process::id()));
         let _ = fs::remove_dir_all(&root);
         let package = Path::new(env!("CARGO_MANIFEST_DIR"));
         for part in ["Cargo.toml", "Cargo.lock", "build.rs", "sources.rs", "src"] {
@@ -87,6 +88,12 @@ impl Checkout {
         }
         files.sort();
         files
+    }
+}
+
+impl Drop for Checkout {
+    fn drop(&mut self) {
+        let _ = fs::remove_dir_all(&self.0);
     }
 }
 
