@@ -6,7 +6,7 @@
  * What holds for every function of the library:
  * - Threads: it keeps no state, so any number of threads may call at once. Threads that only ask may share a text and the memory
  *   filled from it; each needs a buffer of its own.
- * - Allocation: it allocates nothing, takes no lock and makes no system call. Of the C library it needs memcpy, memmove and memset.
+ * - Allocation: it allocates nothing, takes no lock and makes no system call. Of the C library it needs memcpy and memset.
  * - Stack: a call uses less than SIDLUQETHE_STACK_BYTES bytes of the caller's stack. That is measured on the largest texts
  *   (tools/stack.c), not proved.
  * - Cost: asking 10, 100 or 500 rules with plain patterns takes some 5,000, 7,000 or 16,000 instructions, reading 100 of them some

@@ -90,7 +90,9 @@ fn clear(buffer: &mut [u8], at: usize, n: usize)
 }
 
 // Writes a head and a target behind it, zeros behind that, and says how many bytes these are, or 0 where the buffer is too short,
-// which then stays as it was.
+// which then stays as it was. It is not put into its callers: in `write` LLVM would make a memmove of two copies of the target, and
+// the archive is to need memcpy and memset alone.
+#[inline(never)]
 fn lay(buffer: &mut [u8], head: &[u8], target: &[u8]) -> usize
     requires { (13 ≡ length head.now) × (length target.now ≤ 255) }
     ensures value { result ≡ (if ltb (length buffer.old) 268 then 0 else 268) }
