@@ -1,5 +1,6 @@
 -- Every rule of an accepted text is good: its pattern has no fault, its permissions are some of the seven, its target is none or has the
 -- form of one.
+use Rattle.std.proofs.Common.{Option}
 use Prim.Native.Nat.{ℕ, ◌+◌}
 use Prim.Native.Char.{code}
 use mathlib.Core.Path.{◌≡◌, refl, sym, ap₂, subst}
@@ -10,7 +11,7 @@ use lib.Dec.{eqb, ltb, leb}
 use borrow.Author.Tests.{eq-eqb, le-leb, lt-ltb, ltb-false, not-false}
 use Rattle.scan.specs.Bytes.{bytes, every, letter, digit}
 use Rattle.scan.proofs.Bools.{and_left, and_right}
-use Rattle.modes.specs.declared.Transition.{Transition}
+use Rattle.modes.specs.declared.Mode.{Mode}
 use Rattle.text.specs.Reading.{Reading, Read, ◌>>=◌, refuse_if}
 use Rattle.blanks.specs.Blanks.{standing, stands_at}
 use Rattle.tokens.specs.Tokens.{Token, comma, token_at, wanted}
@@ -49,12 +50,12 @@ name-quoted false s e =
     more true b e = refl
     more false b e = absurd (false≢true e)
 
-name-good : (tr : Transition) (s : List ℕ) → takes_target tr ≡ true → name_form true s ≡ true → leb (length s) 255 ≡ true → good_target tr s ≡ true
+name-good : (tr : Option Mode) (s : List ℕ) → takes_target tr ≡ true → name_form true s ≡ true → leb (length s) 255 ≡ true → good_target tr s ≡ true
 unfolding good_target
 name-good tr [] a b c = refl
 name-good tr (x ∷ s) a b c = ap₂ ◌&&◌ (ap₂ ◌&&◌ a b) c
 
-target-good : (tr : Transition) (s : List ℕ) (at : ℕ) → Keeps (λ (x : Target). good_target tr x.target ≡ true) (target_at tr s at)
+target-good : (tr : Option Mode) (s : List ℕ) (at : ℕ) → Keeps (λ (x : Target). good_target tr x.target ≡ true) (target_at tr s at)
 unfolding target_at good_target
 target-good tr s at = go (stands_at (bytes "->") s at)
   where

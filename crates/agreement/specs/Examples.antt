@@ -1,7 +1,6 @@
 -- A text read with room for its rules and without, so that no sentence holds of nothing.
-use Rattle.std.specs.Prelude.{◌≡◌, refl, [], ◌∷◌, false}
+use Rattle.std.specs.Prelude.{◌≡◌, refl, [], ◌∷◌, false, None}
 use Rattle.scan.specs.Bytes.{bytes}
-use Rattle.modes.specs.declared.Transition.TheVariants as transition
 use Rattle.text.specs.Reading.{Refused}
 use Rattle.profile.specs.Profiles.{file_within}
 use Rattle.entries.specs.Entries.{Short, Rejected, policy_of, read_of}
@@ -29,10 +28,10 @@ unfolding read_of
 short-head = refl
 
 -- a pattern with a class that does not end; a target without a mode
-pub bad-pattern : good [] (rule false "/a[" 1 transition.Absent) ≡ false
+pub bad-pattern : good [] (rule false "/a[" 1 None) ≡ false
 unfolding computed good
 bad-pattern = refl
 
-pub bad-target : good_target transition.Absent (bytes "/b") ≡ false
+pub bad-target : good_target None (bytes "/b") ≡ false
 unfolding good_target bytes
 bad-target = refl

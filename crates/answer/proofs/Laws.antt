@@ -7,10 +7,11 @@ use mathlib.Core.Bool.{Bool, true, false, not, ◌||◌, ◌&&◌, and-true, or-
 use native.Mathlib.Numerals.{add-one}
 use native.Mathlib.Omega.{arith}
 use lib.Bits.{bit_and, and_comm, and_le_l, and_le_r}
-use lib.Dec.{eqb}
-use lib.ListN.{length, replicate, set, get_or, take, length-take}
-use lib.Seq.{set_at, take-suc, take_all}
-use borrow.Author.Tests.{eqb-true}
+use lib.Dec.{eqb, ltb}
+use lib.ListN.{length, replicate, take, drop}
+use lib.Seq.{take_all}
+use borrow.Author.Tests.{eqb-true, ltb-true, ltb-false}
+use Rattle.std.proofs.lemmas.List.{drop-replicate}
 use Rattle.scan.specs.Bytes.{every}
 use Rattle.scan.proofs.Bools.{and_left}
 use Rattle.perms.specs.Sets.{has, set_of, perms, unite, without, within}
@@ -183,23 +184,19 @@ answer-gathered f asked = rw (first-choice f.exact f.others)
 
 -- ---- the bytes of a target
 
--- one byte more
-pub fill-next : (s l : List ℕ) (n : ℕ) → n < length s → n < 255 → l ≡ take n s ++ replicate (255 - n) 0 → set l n (get_or s n 0) ≡ take (n + 1) s ++ replicate (255 - (n + 1)) 0
-fill-next s l n h k e =
-    let m : 255 - n ≡ suc (255 - (n + 1)) = omega arith in
-    ap (λ (t : List ℕ). set t n (get_or s n 0)) (e ∙ ap (λ (j : ℕ). take n s ++ replicate j 0) m)
-    ∙ set_at (take n s) 0 (replicate (255 - (n + 1)) 0) (get_or s n 0) n (simp length-take (omega arith))
-    ∙ sym (append_assoc (take n s) (get_or s n 0 ∷ []) (replicate (255 - (n + 1)) 0))
-    ∙ ap (λ (t : List ℕ). t ++ replicate (255 - (n + 1)) 0) (sym (take-suc s n 0 h) ∙ ap (λ (j : ℕ). take j s) (sym (add-one n)))
-
--- all of them
-pub fill_end : (s l : List ℕ) (n : ℕ) → n ≡ length s → n ≤ 255 → l ≡ take n s ++ replicate (255 - n) 0 → record { bytes = l; len = n } ≡ target_of s
-fill_end s l n h k e =
-    let whole : take n s ≡ take 255 s = take_all n s (omega arith) ∙ sym (take_all 255 s (omega arith)) in
-    λ i. record { bytes = (e ∙ ap₂ (λ (a : List ℕ) (j : ℕ). a ++ replicate (255 - j) 0) whole h) i; len = (let m : n ≡ min 255 (length s) = omega arith in m) i }
-
--- all that have room
-pub fill-full : (s l : List ℕ) (n : ℕ) → n ≡ 255 → 255 ≤ length s → l ≡ take n s ++ replicate (255 - n) 0 → record { bytes = l; len = n } ≡ target_of s
-fill-full s l n h k e =
+-- as many as have room, over zeros
+pub filled : (s l : List ℕ) (n : ℕ) → n ≡ min (length s) 255 → l ≡ take n s → record { bytes = l ++ drop n (replicate 255 0); len = n } ≡ target_of s
+filled s l n e f =
     let none : 255 - n ≡ 255 - length s = omega arith in
-    λ i. record { bytes = (e ∙ ap₂ (λ (j m : ℕ). take j s ++ replicate m 0) h none) i; len = (let m : n ≡ min 255 (length s) = omega arith in m) i }
+    let zeros : drop n (replicate 255 0) ≡ replicate (255 - length s) 0 = drop-replicate n 255 0 ∙ ap (λ (j : ℕ). replicate j 0) none in
+    let k : n ≡ min 255 (length s) = omega arith in
+    λ i. record { bytes = ap₂ ◌++◌ (f ∙ go (ltb (length s) 255) refl) zeros i; len = k i }
+  where
+    go : (b : Bool) → ltb (length s) 255 ≡ b → take n s ≡ take 255 s
+    go true h =
+        let k : length s < 255 = ltb-true (length s) 255 h in
+        take_all n s (omega arith) ∙ sym (take_all 255 s (omega arith))
+    go false h =
+        let k : 255 ≤ length s = ltb-false (length s) 255 h in
+        let m : n ≡ 255 = omega arith in
+        ap (λ (j : ℕ). take j s) m

@@ -1,5 +1,5 @@
 -- The answer that findings give, and refusals.
-use Rattle.std.specs.Prelude.{ℕ, ◌-◌, min, List, [], ◌++◌, Bool, true, false, not, ◌||◌, ◌&&◌, length, replicate, take, eqb, if◌then◌else◌}
+use Rattle.std.specs.Prelude.{ℕ, ◌-◌, min, List, [], ◌++◌, Bool, true, false, not, ◌||◌, ◌&&◌, length, replicate, take, eqb, if◌then◌else◌, Ok, Err}
 use Rattle.perms.specs.Sets.{has, set_of, perms}
 use Rattle.modes.specs.declared.Execute.{Execute}
 use Rattle.modes.specs.declared.Execute.TheVariants.{NotAsked, Denied, Conflict, ByMode}
@@ -10,7 +10,6 @@ use Rattle.text.specs.declared.Refusal.{Refusal}
 use Rattle.answer.specs.declared.Answer.{Answer}
 use Rattle.answer.specs.declared.Brief.{Brief}
 use Rattle.answer.specs.declared.Target.{Target}
-use Rattle.answer.specs.declared.Verdict.TheVariants as verdict
 
 -- ---- execute
 
@@ -76,7 +75,7 @@ named_by (ByMode m) Several = []
 unfoldable pub answer_from : Findings → (asked : ℕ) → Answer
 answer_from f asked =
     record {
-      verdict = verdict.Answered;
+      verdict = Ok tt;
       granted = perms (set_of 7 (grants f asked));
       recorded = perms (set_of 7 (records f asked));
       execute = execute_of f asked;
@@ -89,7 +88,7 @@ answer_from f asked =
 abbrev pub refusal : Refusal → Answer
 refusal r =
     record {
-      verdict = verdict.Refused r;
+      verdict = Err r;
       granted = perms 0;
       recorded = perms 0;
       execute = NotAsked;

@@ -1,5 +1,5 @@
 -- The parts of an answer, as the code makes them from sets of permissions and from choices.
-use Rattle.std.specs.Prelude.{ℕ, ◌<◌, ◌≡◌, List, [], Bool, true, false, not, ◌||◌, ◌&&◌, eqb}
+use Rattle.std.specs.Prelude.{ℕ, ◌<◌, ◌≡◌, List, [], Bool, true, false, not, ◌||◌, ◌&&◌, eqb, Ok}
 use Rattle.perms.specs.Sets.{has, set_of, perms}
 use Rattle.modes.specs.declared.Execute.{Execute}
 use Rattle.family.specs.Members.{Choice, None, Single, Several}
@@ -7,7 +7,6 @@ use Rattle.findings.specs.Findings.{Move}
 use Rattle.findings.specs.Weighed.{Weighed}
 use Rattle.answer.specs.Answers.{execute_by, grants_by, named_by, records_by, target_of, x}
 use Rattle.answer.specs.declared.Answer.{Answer}
-use Rattle.answer.specs.declared.Verdict.TheVariants.{Answered}
 
 -- the first choice unless it has no member, else the second
 abbrev pub first_of : Choice Move → Choice Move → Choice Move
@@ -28,7 +27,7 @@ answer_to w asked =
     let c : Choice Move = first_of w.exact w.others in
     let e : Execute = execute_by asked w.denied c in
     record {
-      verdict = Answered;
+      verdict = Ok tt;
       granted = perms (set_of 7 (grants_by asked w.allowed w.denied e));
       recorded = perms (set_of 7 (λ k. records_by asked (grants_by asked w.allowed w.denied e k) w.allowed_audit w.denied w.denied_audit k));
       execute = e;

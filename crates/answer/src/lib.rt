@@ -14,24 +14,18 @@ use modes::Execute;
 use perms::Perms;
 use text::{Place, Refusal, Span};
 
-// The target of a transition: its bytes and how many they are; zero beyond them.
+// The target of a transition: its bytes and how many they are; zero beyond them. So C's answer holds them, at a fixed size; there
+// is no heap to grow a list on.
 #[derive(Clone, Copy)]
 pub struct Target {
     pub bytes: [u8; 255],
     pub len: usize,
 }
 
-// Whether the request was refused, and why.
-#[derive(Clone, Copy)]
-pub enum Verdict {
-    Answered,
-    Refused(Refusal),
-}
-
 // The whole answer. A refusal grants and records nothing and names no target.
 #[derive(Clone, Copy)]
 pub struct Answer {
-    pub verdict: Verdict,
+    pub verdict: Result<(), Refusal>,
     pub granted: Perms,
     pub recorded: Perms,
     pub execute: Execute,
@@ -41,7 +35,7 @@ pub struct Answer {
 // An answer whose target is told by its place in the text, an empty one where there is none.
 #[derive(Clone, Copy)]
 pub struct Brief {
-    pub verdict: Verdict,
+    pub verdict: Result<(), Refusal>,
     pub granted: Perms,
     pub recorded: Perms,
     pub execute: Execute,
@@ -56,7 +50,7 @@ fn prefer(exact: Choice, others: Choice) -> Choice
 {
     match exact {
         Choice::None => others,
-        Choice::Single { mode: _, target: _ } => exact,
+        Choice::Single { .. } => exact,
         Choice::Several => exact,
     }
 }
@@ -73,7 +67,7 @@ fn execute_of(asked: Perms, denied: Perms, choice: Choice) -> Execute
     }
     match choice {
         Choice::None => Execute::Denied,
-        Choice::Single { mode, target: _ } => Execute::ByMode(mode),
+        Choice::Single { mode, .. } => Execute::ByMode(mode),
         Choice::Several => Execute::Conflict,
     }
 }
@@ -82,12 +76,7 @@ fn execute_of(asked: Perms, denied: Perms, choice: Choice) -> Execute
 fn is_mode(execute: Execute) -> bool
     ensures { result ≡ is_mode execute }
 {
-    match execute {
-        Execute::NotAsked => false,
-        Execute::Denied => false,
-        Execute::Conflict => false,
-        Execute::ByMode(_) => true,
-    }
+    matches!(execute, Execute::ByMode(_))
 }
 
 // ---- granted, recorded, target
@@ -140,7 +129,7 @@ fn target_of(mode: bool, choice: Choice) -> Span
     }
     match choice {
         Choice::None => no_target(),
-        Choice::Single { mode: _, target } => target,
+        Choice::Single { target, .. } => target,
         Choice::Several => no_target(),
     }
 }
@@ -149,16 +138,9 @@ fn target_of(mode: bool, choice: Choice) -> Span
 fn target_from(name: &[u8]) -> Target
     ensures { result ≡ target_of name.now }
 {
-    let mut bytes = [0u8; 255];
-    let mut len = 0;
-    while len < name.len() {
-        if len < 255 {
-            bytes[len] = name[len];
-            len += 1;
-        } else {
-            return Target { bytes, len };
-        }
-    }
+    let mut bytes = [0; 255];
+    let len = scan::least(name.len(), 255);
+    bytes[..len].copy_from_slice(&name[..len]);
     Target { bytes, len }
 }
 
@@ -169,14 +151,12 @@ pub fn finish_brief(found: Findings, asked: Perms) -> Brief
     ensures { (s : List ℕ) → whole_of s result ≡ answer_to (seen_findings s found) asked.0 }
 {
     let wanted = both(asked, Perms(127));
-    let exact = found.exact;
-    let others = found.others;
-    let choice = prefer(exact, others);
+    let choice = prefer(found.exact, found.others);
     let execute = execute_of(wanted, found.denied.all, choice);
     let by_mode = is_mode(execute);
     let granted = granted_of(wanted, found.allowed.all, found.denied.all, by_mode);
     Brief {
-        verdict: Verdict::Answered,
+        verdict: Ok(()),
         granted,
         recorded: recorded_of(wanted, granted, found),
         execute,
@@ -189,7 +169,7 @@ pub fn refused_brief(why: Refusal) -> Brief
     ensures { (s : List ℕ) → whole_of s result ≡ refusal why }
 {
     Brief {
-        verdict: Verdict::Refused(why),
+        verdict: Err(why),
         granted: Perms(0),
         recorded: Perms(0),
         execute: Execute::NotAsked,
@@ -201,17 +181,12 @@ pub fn refused_brief(why: Refusal) -> Brief
 pub fn fill(text: &[u8], b: Brief) -> Answer
     ensures { result ≡ whole_of text.now b }
 {
-    let verdict = b.verdict;
-    let granted = b.granted;
-    let recorded = b.recorded;
-    let execute = b.execute;
-    let target = b.target;
     Answer {
-        verdict,
-        granted,
-        recorded,
-        execute,
-        target: target_from(scan::span(text, target.from.0, target.end.0)),
+        verdict: b.verdict,
+        granted: b.granted,
+        recorded: b.recorded,
+        execute: b.execute,
+        target: target_from(scan::span(text, b.target.from.0, b.target.end.0)),
     }
 }
 
@@ -226,6 +201,5 @@ pub fn finish(text: &[u8], found: Findings, asked: Perms) -> Answer
 pub fn refused(why: Refusal) -> Answer
     ensures { result ≡ refusal why }
 {
-    let none = [0u8; 1];
-    fill(&none, refused_brief(why))
+    fill(b"", refused_brief(why))
 }

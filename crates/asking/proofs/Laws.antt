@@ -1,5 +1,6 @@
 -- What is gathered record by record is the findings of the rules that count, and the answer in the end is the one defined.
 use Rattle.std.specs.Prelude.{if◌then◌else◌}
+use Rattle.std.proofs.Common.{Option, Some, None}
 use Prim.Native.Nat.{ℕ, zero, suc, ◌+◌, ◌*◌, ◌-◌, min}
 use mathlib.Core.Path.{◌≡◌, refl, sym, ap, ap₂, ◌∙◌}
 use mathlib.Core.List.{List, [], ◌∷◌, ◌++◌, map, append_assoc, append-nil}
@@ -27,7 +28,7 @@ use Rattle.glob.specs.Glob.{matched_of, no_match}
 use Rattle.glob.specs.declared.Matched.{Matched}
 use Rattle.family.specs.Members.{those, all, choice}
 use Rattle.names.specs.Names.{name_form}
-use Rattle.modes.specs.declared.Transition.{Transition}
+use Rattle.modes.specs.declared.Mode.{Mode}
 use Rattle.rule_tail.specs.Tails.{takes_target}
 use Rattle.rule.specs.Rules.{Rule}
 use Rattle.words.specs.Words.{is_out, words_of}
@@ -45,7 +46,7 @@ use Rattle.weigh.proofs.Laws.{fitting, matched-fit, owner-turned, weigh-one}
 use Rattle.entries.specs.Entries.{Entry, entry_of, names_from, policy_in}
 use Rattle.entries.specs.declared.Record.{Record}
 use Rattle.asking.specs.Asking.{answer_among, asked_of, by_name, counts, good, good_end, good_target, match_by, match_of, rules_for}
-use Rattle.asking.specs.Steps.{concluded, gathered_in, match_if, matched_rule, number_from, out_of, query_by, query_of, refused_for, refused_query, weighed_entry}
+use Rattle.asking.specs.Steps.{concluded, first_named, gathered_in, match_if, matched_rule, number_from, out_of, query_by, query_of, refused_for, refused_query, weighed_entry}
 use Rattle.asking.specs.declared.Query.{Query}
 
 -- ---- one record more
@@ -315,6 +316,14 @@ module _ (text head n path : List ℕ) (owner : Bool) (e : Entry) where
 
 -- ---- what is known before the walk
 
+number-none_at : (k : ℕ) → numbered None Some k ≡ None → k ≡ 0
+number-none_at zero e = refl
+number-none_at (suc k) e = cc
+
+number-some_at : (k i : ℕ) → numbered None Some k ≡ Some i → k ≡ suc i
+number-some_at zero i e = cc
+number-some_at (suc k) i e = cc
+
 module _ (text head : List ℕ) (records : ℕ) (n path : List ℕ) (asked : Perms) (owner : Bool) where
   abbrev number : ℕ
   number = number_from n 0 (names_from text (drop 1120 head) (min 32 (get_or head 1249 0)) 0)
@@ -326,29 +335,32 @@ module _ (text head : List ℕ) (records : ℕ) (n path : List ℕ) (asked : Per
   unfolding query_of
   query-refused {k} v e h = ap (refused_by k) v ∙ rw (← e, ne_eqb k 0 h)
 
-  module _ {k : ℕ} (e : k ≡ refused_for text path asked.0) (z : k ≡ 0) {i : ℕ} (f : i ≡ number) {w : Words} (v : w ≡ words_of path) where
-    query-known : {j : ℕ} → i ≡ j → query_by j head records path asked owner ≡ query_of text head records n path asked owner
+  module _ {k : ℕ} (e : k ≡ refused_for text path asked.0) (z : k ≡ 0) {o : Option ℕ} (f : o ≡ first_named n 0 (names_from text (drop 1120 head) (min 32 (get_or head 1249 0)) 0)) {w : Words} (v : w ≡ words_of path) where
+    query-known : {j : ℕ} → number ≡ j → query_by j head records path asked owner ≡ query_of text head records n path asked owner
     unfolding query_of
-    query-known y = ap (λ (m : ℕ). query_by m head records path asked owner) (sym y ∙ f) ∙ rw (← e, z)
+    query-known y = ap (λ (m : ℕ). query_by m head records path asked owner) (sym y) ∙ rw (← e, z)
 
-    pub query-nowhere : i ≡ 0 → refused_by 11 w ≡ query_of text head records n path asked owner
-    query-nowhere y = ap (refused_by 11) v ∙ query-known y
+    told : numbered None Some number ≡ o
+    told = name-number None Some n 0 (names_from text (drop 1120 head) (min 32 (get_or head 1249 0)) 0) ∙ sym f
 
-    pub query-found : {count vars : ℕ} → (i ≡ 0 → ⊥) → vars ≡ get_or head 1248 0 → count ≡ min records (get_or head 1250 0) →
-        ◌≡◌ {A = Query} (record { refused = 0; profile = i - 1; variables = vars; count = count; words = w; asked = asked; owner = owner }) (query_of text head records n path asked owner)
-    query-found y a b =
-        (λ t. record { refused = 0; profile = i - 1; variables = a t; count = b t; words = v t; asked = asked; owner = owner }) ∙ query-known {j = suc (i - 1)} (omega arith)
+    pub query-nowhere : o ≡ None → refused_by 11 w ≡ query_of text head records n path asked owner
+    query-nowhere y = ap (refused_by 11) v ∙ query-known (number-none_at number (told ∙ y))
+
+    pub query-found : {i count vars : ℕ} → o ≡ Some i → vars ≡ get_or head 1248 0 → count ≡ min records (get_or head 1250 0) →
+        ◌≡◌ {A = Query} (record { refused = 0; profile = i; variables = vars; count = count; words = w; asked = asked; owner = owner }) (query_of text head records n path asked owner)
+    query-found {i} y a b =
+        (λ t. record { refused = 0; profile = i; variables = a t; count = b t; words = v t; asked = asked; owner = owner }) ∙ query-known (number-some_at number i (told ∙ y))
 
 module _ (n text t : List ℕ) (i : ℕ) where
-  pub number-here : {k m : ℕ} → k ≡ suc m → same (bytes_at text t (4 * i)) n ≡ true → number_from n i (names_from text t k i) ≡ i + 1
+  pub number-here : {k m : ℕ} → k ≡ suc m → same (bytes_at text t (4 * i)) n ≡ true → first_named n i (names_from text t k i) ≡ Some i
   unfolding by_name names_from
-  number-here k e = rw (k, e, by_name) (omega arith)
+  number-here k e = rw (k, e, by_name)
 
-  pub number-later : {k m : ℕ} → k ≡ suc m → same (bytes_at text t (4 * i)) n ≡ false → number_from n i (names_from text t k i) ≡ number_from n (i + 1) (names_from text t m (i + 1))
+  pub number-later : {k m : ℕ} → k ≡ suc m → same (bytes_at text t (4 * i)) n ≡ false → first_named n i (names_from text t k i) ≡ first_named n (i + 1) (names_from text t m (i + 1))
   unfolding by_name names_from
   number-later k e = rw (k, e, by_name)
 
-  pub number-none : {k : ℕ} → k ≡ 0 → number_from n i (names_from text t k i) ≡ 0
+  pub number-none : {k : ℕ} → k ≡ 0 → first_named n i (names_from text t k i) ≡ None
   unfolding by_name names_from
   number-none k = rw k
 
@@ -360,12 +372,12 @@ name-at text head i a e p q =
 
 -- ---- targets
 
-pub target_none : (tr : Transition) (s : List ℕ) → length s ≡ 0 → good_target tr s ≡ true
+pub target_none : (tr : Option Mode) (s : List ℕ) → length s ≡ 0 → good_target tr s ≡ true
 unfolding good_target
 target_none tr [] e = refl
 target_none tr (b ∷ s) e = absurd (omega arith)
 
-pub target-some : (tr : Transition) (s : List ℕ) → (length s ≡ 0 → ⊥) → good_target tr s ≡ (takes_target tr && name_form true s && leb (length s) 255)
+pub target-some : (tr : Option Mode) (s : List ℕ) → (length s ≡ 0 → ⊥) → good_target tr s ≡ (takes_target tr && name_form true s && leb (length s) 255)
 unfolding good_target
 target-some tr [] h = absurd (h refl)
 target-some tr (b ∷ s) h = refl

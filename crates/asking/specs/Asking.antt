@@ -1,10 +1,10 @@
 -- The answer of what was read once, to a profile name and a request.
-use Rattle.std.specs.Prelude.{ℕ, ◌+◌, List, [], ◌∷◌, map, Bool, true, false, not, ◌&&◌, length, drop, eqb, ltb, leb, if◌then◌else◌}
+use Rattle.std.specs.Prelude.{ℕ, ◌+◌, List, [], ◌∷◌, map, Bool, true, false, not, ◌&&◌, length, drop, eqb, ltb, leb, if◌then◌else◌, Option}
 use Rattle.scan.specs.Bytes.{same}
 use Rattle.text.specs.Reading.{nowhere}
 use Rattle.request.specs.Requests.{bad_asked, bad_path}
 use Rattle.names.specs.Names.{name_form}
-use Rattle.modes.specs.declared.Transition.{Transition}
+use Rattle.modes.specs.declared.Mode.{Mode}
 use Rattle.rule_tail.specs.Tails.{takes_target}
 use Rattle.pattern.specs.Expansions.{Variable}
 use Rattle.pattern.specs.Faults.{pattern_fault}
@@ -20,7 +20,7 @@ use Rattle.answer.specs.declared.Answer.{Answer}
 use Rattle.entries.specs.Entries.{Entry, Policy}
 
 -- none, or a name after a p or c mode: "TARGET has the form of a name", "over 255 bytes are 9"
-unfoldable pub good_target : Transition → List ℕ → Bool
+unfoldable pub good_target : Option Mode → List ℕ → Bool
 good_target tr [] = true
 good_target tr (b ∷ s) = takes_target tr && name_form true (b ∷ s) && leb (length (b ∷ s)) 255
 

@@ -1,5 +1,5 @@
 -- Asking as the code does it: what is known before the walk, and what a record adds.
-use Rattle.std.specs.Prelude.{ℕ, zero, suc, min, List, [], ◌∷◌, Bool, true, not, ◌||◌, ◌&&◌, length, get_or, drop, eqb, ltb, if◌then◌else◌}
+use Rattle.std.specs.Prelude.{ℕ, zero, suc, min, List, [], ◌∷◌, Bool, true, not, ◌||◌, ◌&&◌, length, get_or, drop, eqb, ltb, if◌then◌else◌, Option, Some, None}
 use Rattle.text.specs.Reading.{nowhere}
 use Rattle.perms.specs.declared.Perms.{Perms}
 use Rattle.request.specs.Requests.{bad_asked, bad_path}
@@ -22,6 +22,10 @@ use Rattle.asking.specs.declared.Query.{Query}
 -- the number of the first of these names that is n, counted from 1 and i; 0 where there is none
 abbrev pub number_from : (n : List ℕ) → (i : ℕ) → List (List ℕ) → ℕ
 number_from = by_name zero suc
+
+-- the same counted from i alone
+abbrev pub first_named : (n : List ℕ) → (i : ℕ) → List (List ℕ) → Option ℕ
+first_named = by_name None Some
 
 -- 1, 2 and 3, or 0
 unfoldable pub refused_for : (text path : List ℕ) → (asked : ℕ) → ℕ

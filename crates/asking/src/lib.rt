@@ -9,13 +9,13 @@ ghost use Rattle.findings.specs.Weighed.{seen_findings};
 ghost use Rattle.answer.specs.Answers.{whole_of};
 ghost use Rattle.entries.specs.Entries.{entry_of, names_from, policy_in};
 ghost use Rattle.asking.specs.Asking.{good_end, good_target, match_of};
-ghost use Rattle.asking.specs.Steps.{concluded, matched_rule, number_from, out_of, query_of, refused_for, weighed_entry};
+ghost use Rattle.asking.specs.Steps.{concluded, first_named, matched_rule, out_of, query_of, refused_for, weighed_entry};
 
 use answer::{Answer, Brief, fill, finish_brief, refused_brief};
 use entries::{PROFILE_COUNT, PROFILES_AT, RULE_COUNT, Record, VARIABLE_COUNT};
 use findings::{Findings, allow, deny};
 use glob::{Matched, match_pattern};
-use modes::Transition;
+use modes::Mode;
 use names::{NAME_BYTES, name_form};
 use perms::Perms;
 use request::{is_bad_asked, is_bad_path};
@@ -64,20 +64,18 @@ fn refused_for(text: &[u8], path: &[u8], asked: Perms) -> u8
     0
 }
 
-// The number of the first profile of this name, counted from 1; 0 where there is none.
-fn find(text: &[u8], head: &[usize], name: &[u8]) -> usize
-    ensures { result ≡ number_from name.now 0 (names_from text.now (drop 1120 head.now) (min 32 (get_or head.now 1249 0)) 0) }
+// The number of the first profile of this name.
+fn find(text: &[u8], head: &[usize], name: &[u8]) -> Option<usize>
+    ensures { result ≡ first_named name.now 0 (names_from text.now (drop 1120 head.now) (min 32 (get_or head.now 1249 0)) 0) }
 {
     let n = least(32, cell(head, PROFILE_COUNT));
-    let mut i = 0;
-    while i < n {
+    for i in 0..n {
         let at = PROFILES_AT + 4 * i;
         if same_bytes(span(text, cell(head, at), cell(head, at + 1)), name) {
-            return i + 1;
+            return Some(i);
         }
-        i += 1;
     }
-    0
+    None
 }
 
 // What is known of a request before the records, as many as these, are walked.
@@ -105,8 +103,7 @@ pub fn begin(
             owner,
         };
     }
-    let i = find(text, head, name);
-    if i == 0 {
+    let Some(profile) = find(text, head, name) else {
         return Query {
             refused: NO_PROFILE,
             profile: 0,
@@ -116,10 +113,10 @@ pub fn begin(
             asked,
             owner,
         };
-    }
+    };
     Query {
         refused: 0,
-        profile: i - 1,
+        profile,
         variables: cell(head, VARIABLE_COUNT),
         count: least(records, cell(head, RULE_COUNT)),
         words,
@@ -139,7 +136,7 @@ pub fn is_out(query: Query, entry: Record) -> bool
 }
 
 // Whether a target is none, or has the form of one.
-fn is_good_target(text: &[u8], transition: Transition, target: Span) -> bool
+fn is_good_target(text: &[u8], transition: Option<Mode>, target: Span) -> bool
     ensures { result ≡ good_target transition (span_of text.now target) }
 {
     let name = span(text, target.from.0, target.end.0);
@@ -169,7 +166,7 @@ fn matched(
     rule: Rule,
 ) -> Matched
     ensures { result
-        ≡ matched_rule text.now (env text.now head.now variables) (record { path = path.entry.now; owner = owner }) (rule_of text.now rule) }
+        ≡ matched_rule text.now (env text.now head.now variables) (record { path = path.now; owner = owner }) (rule_of text.now rule) }
 {
     let none = Matched {
         some: false,
@@ -221,7 +218,7 @@ pub fn weigh(
     found: Findings,
 ) -> Findings
     ensures { seen_findings text.now result
-        ≡ weighed_entry text.now (env text.now head.now query.variables) (record { path = path.entry.now; owner = query.owner }) (entry_of text.now entry) (seen_findings text.now found) }
+        ≡ weighed_entry text.now (env text.now head.now query.variables) (record { path = path.now; owner = query.owner }) (entry_of text.now entry) (seen_findings text.now found) }
 {
     let rule = entry.rule;
     let m = matched(text, head, path, query.variables, query.owner, rule);

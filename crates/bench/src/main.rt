@@ -5,7 +5,7 @@ ghost use Rattle.std.specs.Prelude.{◌≡◌, ◌+◌, ◌≤◌, length, take}
 
 use faults::pattern_fault;
 use glob::match_good;
-use scan::{same_bytes, span};
+use scan::span;
 use std::io;
 use std::rt::Env;
 
@@ -33,91 +33,60 @@ fn new_case(start: usize, end: usize, from: usize, to: usize) -> Case {
 }
 
 // Literals only, and stars: 20 pieces each, or 1,024. The path of `dead-20` begins with no /.
-fn plain_case(name: &[u8]) -> Case {
-    if same_bytes(name, b"literals-1024") {
-        return new_case(3083, 3088, 0, 1024);
+// Then 256 expansions of 20 pieces; 256 of 1,024; 17 classes of 1,024 bytes between two of ** among 20 pieces.
+fn case_of(name: &[u8]) -> Option<Case> {
+    match name {
+        b"literals-1024" => Some(new_case(3083, 3088, 0, 1024)),
+        b"literals-4095" => Some(new_case(3088, 3108, 0, 4095)),
+        b"literals-20" => Some(new_case(3088, 3108, 0, 20)),
+        b"dead-20" => Some(new_case(3088, 3108, 1, 21)),
+        b"stars-4095" => Some(new_case(3108, 3128, 0, 4095)),
+        b"stars-20" => Some(new_case(3108, 3128, 0, 20)),
+        b"choices-20" => Some(new_case(3128, 3160, 0, 20)),
+        b"double-stars-4095" => Some(new_case(3160, 3187, 0, 4095)),
+        b"classes-4095" => Some(new_case(3187, 3260, 0, 4095)),
+        b"classes-20" => Some(new_case(3187, 3260, 0, 20)),
+        _ => None,
     }
-    if same_bytes(name, b"literals-4095") {
-        return new_case(3088, 3108, 0, 4095);
-    }
-    if same_bytes(name, b"literals-20") {
-        return new_case(3088, 3108, 0, 20);
-    }
-    if same_bytes(name, b"dead-20") {
-        return new_case(3088, 3108, 1, 21);
-    }
-    if same_bytes(name, b"stars-4095") {
-        return new_case(3108, 3128, 0, 4095);
-    }
-    if same_bytes(name, b"stars-20") {
-        return new_case(3108, 3128, 0, 20);
-    }
-    new_case(0, 0, 0, 0)
-}
-
-// 256 expansions of 20 pieces; 256 of 1,024; 17 classes of 1,024 bytes between two of ** among 20 pieces.
-fn case_of(name: &[u8]) -> Case {
-    if same_bytes(name, b"choices-20") {
-        return new_case(3128, 3160, 0, 20);
-    }
-    if same_bytes(name, b"double-stars-4095") {
-        return new_case(3160, 3187, 0, 4095);
-    }
-    if same_bytes(name, b"classes-4095") {
-        return new_case(3187, 3260, 0, 4095);
-    }
-    if same_bytes(name, b"classes-20") {
-        return new_case(3187, 3260, 0, 20);
-    }
-    plain_case(name)
 }
 
 // Variable w is called by letter w of the names; its value k, the last one, is the bytes from a to before e.
 fn set_value(vars: &mut [usize; 1120], w: usize, k: usize, a: usize, e: usize) {
-    if w < 32 {
-        if k < 16 {
-            let at = 96 + 2 * (16 * w + k);
-            vars[2 * w] = NAMES + w;
-            vars[2 * w + 1] = NAMES + w + 1;
-            vars[64 + w] = k + 1;
-            vars[at] = a;
-            vars[at + 1] = e;
-        }
+    if (w < 32) & (k < 16) {
+        let at = 96 + 2 * (16 * w + k);
+        vars[2 * w] = NAMES + w;
+        vars[2 * w + 1] = NAMES + w + 1;
+        vars[64 + w] = k + 1;
+        vars[at] = a;
+        vars[at + 1] = e;
     }
 }
 
 // Four values that are the same.
 fn set_four(vars: &mut [usize; 1120], w: usize, a: usize, e: usize) {
-    set_value(vars, w, 0, a, e);
-    set_value(vars, w, 1, a, e);
-    set_value(vars, w, 2, a, e);
-    set_value(vars, w, 3, a, e);
+    for k in 0..4 {
+        set_value(vars, w, k, a, e);
+    }
 }
 
 // A to D are ** four times; S is 509 of **; V is 1,023 of a; K is a class of 1,024 bytes; E to H are a four times.
 fn set_variables(vars: &mut [usize; 1120]) {
-    set_four(vars, 0, 1024, 1026);
-    set_four(vars, 1, 1024, 1026);
-    set_four(vars, 2, 1024, 1026);
-    set_four(vars, 3, 1024, 1026);
+    for w in 0..4 {
+        set_four(vars, w, 1024, 1026);
+    }
     set_value(vars, 4, 0, 1024, 2042);
     set_value(vars, 5, 0, 0, 1023);
     set_value(vars, 6, 0, 2048, 3072);
-    set_four(vars, 7, 0, 1);
-    set_four(vars, 8, 0, 1);
-    set_four(vars, 9, 0, 1);
-    set_four(vars, 10, 0, 1);
+    for w in 7..11 {
+        set_four(vars, w, 0, 1);
+    }
 }
 
 // Bytes put into the text from a place on.
 fn put(text: &mut [u8; 4096], at: usize, bytes: &[u8])
     requires { at + length bytes.now ≤ 4096 }
 {
-    let mut i = 0;
-    while i < bytes.len() {
-        text[at + i] = bytes[i];
-        i += 1;
-    }
+    text[at..at + bytes.len()].copy_from_slice(bytes);
 }
 
 // The values, the names and the patterns.
@@ -141,49 +110,36 @@ fn new_text() -> [u8; 4096] {
 fn digit(b: u8) -> usize
     ensures { result ≤ 9 }
 {
-    if b < b'0' {
-        return 0;
+    match b {
+        b'0'..=b'9' => (b - b'0') as usize,
+        _ => 0,
     }
-    if b'9' < b {
-        return 0;
-    }
-    (b - b'0') as usize
 }
 
 // The last nine digits of a number.
 fn number(text: &[u8]) -> usize {
-    let mut n: usize = 0;
-    let mut i = 0;
-    while i < text.len() {
-        n = n % 100000000 * 10 + digit(text[i]);
-        i += 1;
-    }
-    n
+    text.iter().fold(0, |n, b| n % 100000000 * 10 + digit(*b))
 }
 
-// 1 where the pattern from a to before e has no fault and matches the path, else 0.
-fn hit(text: &[u8], vars: &[usize], sizes: &[usize; 132], a: usize, e: usize, path: &[u8]) -> usize
-    ensures { result ≤ 1 }
-{
-    if pattern_fault(text, vars, COUNT, sizes, a, e) != 0 {
-        return 0;
-    }
-    let m = match_good(text, vars, COUNT, sizes, a, e, path);
-    if m.some { 1 } else { 0 }
+// Whether the pattern from a to before e has no fault and matches the path.
+fn hits(
+    text: &[u8],
+    vars: &[usize],
+    sizes: &[usize; 132],
+    a: usize,
+    e: usize,
+    path: &[u8],
+) -> bool {
+    (pattern_fault(text, vars, COUNT, sizes, a, e) == 0)
+        && match_good(text, vars, COUNT, sizes, a, e, path).some
 }
 
 // How many of the turns match.
 fn matches(text: &[u8], vars: &[usize; 1120], case: Case, path: &[u8], turns: usize) -> usize {
     let sizes = measure::sizes_of(text, vars, COUNT);
-    let a = case.start;
-    let e = case.end;
-    let mut hits = 0;
-    let mut i = 0;
-    while i < turns {
-        hits += hit(text, vars, &sizes.table, a, e, path);
-        i += 1;
-    }
-    hits
+    (0..turns)
+        .filter(|_| hits(text, vars, &sizes.table, case.start, case.end, path))
+        .count()
 }
 
 fn run(rt: &impl Print, case: Case, turns: usize) -> io::Result<()> {
@@ -201,10 +157,7 @@ fn argument(rt: &impl Env, i: usize, buffer: &mut [u8]) -> usize
     ensures bound { result ≤ length buffer.new }
     ensures front { result ≡ length (take result buffer.new) }
 {
-    match rt.arg(i, buffer) {
-        Ok(n) => n,
-        Err(_) => 0,
-    }
+    rt.arg(i, buffer).unwrap_or(0)
 }
 
 fn main(rt: HostRuntime) -> io::Result<()> {
@@ -212,10 +165,8 @@ fn main(rt: HostRuntime) -> io::Result<()> {
     let m = argument(&rt, 1, &mut name);
     let mut count = [0u8; 4096];
     let k = argument(&rt, 2, &mut count);
-    let case = case_of(&name[..m]);
-    if 0 < case.to {
-        run(&rt, case, number(&count[..k]))
-    } else {
-        eprintln!(rt; "call: bench CASE TURNS")
+    match case_of(&name[..m]) {
+        Some(case) => run(&rt, case, number(&count[..k])),
+        None => eprintln!(rt; "call: bench CASE TURNS"),
     }
 }

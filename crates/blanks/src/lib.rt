@@ -11,7 +11,7 @@ use text::Place;
 fn is_blank(b: u8) -> bool
     ensures { result ≡ blank b }
 {
-    (b == b' ') | (b == b'\t') | (b == b'\r') | (b == b'\n')
+    matches!(b, b' ' | b'\t' | b'\r' | b'\n')
 }
 
 // Whether what stands at a place is a comment that starts #include.
@@ -25,37 +25,18 @@ fn is_include(text: &[u8], at: usize) -> bool
 fn comment_end(text: &[u8], at: usize) -> usize
     ensures { result ≡ at + run in_comment (drop at text.now) }
 {
-    let mut i = at;
-    while i < text.len() {
-        let b = text[i];
-        if (b == b'\n') | (b == 0) {
-            return i;
-        }
-        i += 1;
-    }
-    i
+    scan::end_of(text, at, |b| !((b == b'\n') | (b == 0)))
 }
 
 // The place of what stands next, after blanks and comments; a NUL and #include are neither.
 pub fn standing_at(text: &[u8], at: Place) -> Place
     ensures { result.0 ≡ standing text.now at.0 }
 {
-    let mut i = at.0;
-    while i < text.len() {
-        let b = text[i];
-        if is_blank(b) {
-            i += 1;
-        } else {
-            if b != b'#' {
-                return Place(i);
-            }
-            if is_include(text, i) {
-                return Place(i);
-            }
-            i = comment_end(text, i + 1);
-        }
+    let mut place = scan::end_of(text, at.0, is_blank);
+    while scan::begins_at(text, place, b'#') && !is_include(text, place) {
+        place = scan::end_of(text, comment_end(text, place + 1), is_blank);
     }
-    Place(i)
+    Place(place)
 }
 
 // Whether what stands next begins with the bytes of a word.

@@ -1,11 +1,11 @@
 -- What the code's values mean over the text.
-use Rattle.text.specs.Reading.{Reading, Read}
-use Rattle.text.specs.Places.{refused_by}
+use Rattle.std.specs.Prelude.{Result}
+use Rattle.text.specs.Reading.{Reading}
+use Rattle.text.specs.Places.{seen_by}
+use Rattle.text.specs.declared.Stop.{Stop}
 use Rattle.statement.specs.Steps.{Counted}
-use Rattle.body.specs.declared.RulesRead.{RulesRead}
-use Rattle.body.specs.declared.RulesRead.TheVariants as rules
+use Rattle.body.specs.declared.Rules.{Rules}
 
 -- how many rules were read, or the refusal
-unfoldable pub seen_rules : RulesRead → Reading Counted
-seen_rules (rules.Good k n) = Read (record { count = k; next = n.0 })
-seen_rules (rules.Refused stop) = refused_by stop
+abbrev pub seen_rules : Result Rules Stop → Reading Counted
+seen_rules r = seen_by (λ x. record { count = x.count; next = x.next.0 }) r

@@ -9,36 +9,30 @@ ghost use Rattle.body.specs.Places.{seen_rules};
 
 use statement::{Step, rule_at};
 use text::{Place, Stop, TOO_MUCH};
-use tokens::{Read, stop_of};
 
-// The number of rules and where reading goes on, or the refusal.
+// The number of rules and where reading goes on.
 #[derive(Clone, Copy)]
-pub enum RulesRead {
-    Good { count: usize, next: Place },
-    Refused(Stop),
+pub struct Rules {
+    pub count: usize,
+    pub next: Place,
 }
 
 // The } at a place, after so many rules, where no more is allowed.
-fn rules_end(text: &[u8], count: usize, at: Place) -> RulesRead
+fn rules_end(text: &[u8], count: usize, at: Place) -> Result<Rules, Stop>
     ensures { seen_rules result ≡ counted_end count (end_at text.now at.0) }
 {
     if blanks::stands_at(text, at, b"}") {
         let brace = blanks::standing_at(text, at);
-        let i = brace.0;
-        return RulesRead::Good {
+        return Ok(Rules {
             count,
-            next: Place(i + 1),
-        };
+            next: Place(brace.0 + 1),
+        });
     }
     let q = rule::qualifiers_at(text, at);
-    let token = rule::pattern_at(text, q);
-    let Read::Found(t) = token else {
-        return RulesRead::Refused(stop_of(token));
-    };
-    let start = t.start;
-    RulesRead::Refused(Stop {
+    let token = rule::pattern_at(text, q)?;
+    Err(Stop {
         number: TOO_MUCH,
-        place: start,
+        place: token.start,
     })
 }
 
@@ -50,25 +44,20 @@ pub fn rules_at(
     sizes: &[usize; 132],
     left: usize,
     at: Place,
-) -> RulesRead
+) -> Result<Rules, Stop>
     ensures { seen_rules result ≡ counted (rules_at left (fault_by text.now vars.now n sizes.now) text.now at.0) }
 {
     let mut place = at;
-    let mut count: usize = 0;
-    while count < left {
-        let r = rule_at(text, vars, n, sizes, 0, place);
-        match r {
+    for count in 0..left {
+        let step = rule_at(text, vars, n, sizes, 0, place)?;
+        match step {
             Step::Rule { rule: _, next } => {
                 place = next;
-                count += 1;
             }
             Step::Close { next } => {
-                return RulesRead::Good { count, next };
-            }
-            Step::Refused(stop) => {
-                return RulesRead::Refused(stop);
+                return Ok(Rules { count, next });
             }
         }
     }
-    rules_end(text, count, place)
+    rules_end(text, left, place)
 }

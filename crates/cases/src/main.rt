@@ -5,8 +5,9 @@
 
 ghost use Rattle.std.specs.Prelude.{◌≡◌, ◌≤◌, ◌<◌, length, take, IfOk};
 
-use answer::{Answer, Verdict, refused};
+use answer::{Answer, refused};
 use decide::decide;
+use entries::Unread;
 use perms::Perms;
 use print::{put, put_execute, put_number, put_target};
 use std::io;
@@ -113,7 +114,7 @@ fn put_answer<W: Write>(out: &mut W, a: Answer) -> io::Result<()> {
     let target = a.target;
     let bytes = target.bytes;
     match verdict {
-        Verdict::Refused(refusal) => {
+        Err(refusal) => {
             put(out, b"refused\t")?;
             put_number(out, refusal.number as u64)?;
             put(out, b"\t")?;
@@ -122,7 +123,7 @@ fn put_answer<W: Write>(out: &mut W, a: Answer) -> io::Result<()> {
             put_number(out, refusal.column as u64)?;
             put(out, b"\t-\n")
         }
-        Verdict::Answered => {
+        Ok(()) => {
             put_number(out, a.granted.0 as u64)?;
             put(out, b"\t")?;
             put_number(out, a.recorded.0 as u64)?;
@@ -136,10 +137,10 @@ fn put_answer<W: Write>(out: &mut W, a: Answer) -> io::Result<()> {
 }
 
 // The refusal; all 0 where there is none.
-fn refusal_of(verdict: Verdict) -> Refusal {
+fn refusal_of(verdict: Result<(), Refusal>) -> Refusal {
     match verdict {
-        Verdict::Answered => nowhere(0),
-        Verdict::Refused(refusal) => refusal,
+        Ok(()) => nowhere(0),
+        Err(refusal) => refusal,
     }
 }
 
@@ -160,8 +161,7 @@ fn by_memory(
     if (0 < first.number) & (first.number < 4) {
         return a;
     }
-    let refusal = got.refusal;
-    if got.refused {
+    if let Err(Unread::Refused(refusal)) = got {
         return refused(refusal);
     }
     a

@@ -1,4 +1,5 @@
 -- A front held to a path, and the turns of the loops over values and alternatives.
+use Rattle.std.specs.Prelude.{Option, Some, None}
 use mathlib.Core.Path.{◌≡◌, refl, sym, ap, ◌∙◌}
 use mathlib.Core.List.{List, [], ◌∷◌}
 use mathlib.Core.Bool.{Bool, true, false}
@@ -30,41 +31,42 @@ use Rattle.choices.specs.Choices.{values_in, leads, or_follows, leads_on, some_l
 -- ---- a front
 
 -- what was told of a front
-module _ (goes : Bool → List ℕ → List ℕ → Bool) (slash : Bool) (s path : List ℕ) {r : Led} (told : r ≡ lead_of slash s path) where
-  pub led-none : r.fits ≡ false → false ≡ leads goes s slash path
+module _ (goes : Bool → List ℕ → List ℕ → Bool) (slash : Bool) (s path : List ℕ) {r : Option Led} (told : r ≡ lead_of slash s path) where
+  pub led-none : r ≡ None → false ≡ leads goes s slash path
   unfolding leads
-  led-none e = rw (lead-none slash s path r told e)
+  led-none e = rw (lead-none slash s path (sym told ∙ e))
 
-  pub led-some : r.fits ≡ true → goes r.slash (drop r.len s) (drop r.len path) ≡ leads goes s slash path
+  pub led-some : {l : Led} → r ≡ Some l → goes l.slash (drop l.len s) (drop l.len path) ≡ leads goes s slash path
   unfolding leads
-  led-some e = rw (lead-some slash s path r told e, lead-len slash s path r told e, lead-slash slash s path r told e)
+  led-some e = let t = sym told ∙ e in rw (lead-some slash s path t, lead-len slash s path t, lead-slash slash s path t)
 
 -- of the front of a value
-module _ (goes : Bool → List ℕ → Bool) (slash : Bool) (path value : List ℕ) {r : Led} (told : r ≡ lead_of slash (span value 0 (length value)) path) where
+module _ (goes : Bool → List ℕ → Bool) (slash : Bool) (path value : List ℕ) {r : Option Led} (told : r ≡ lead_of slash (span value 0 (length value)) path) where
   of-value : r ≡ lead_of slash value path
   of-value = told ∙ rw (span_rest value 0)
 
-  pub leads-unfit : r.fits ≡ false → false ≡ leads_on goes slash path value
+  pub leads-unfit : r ≡ None → false ≡ leads_on goes slash path value
   leads-unfit e = led-none (or_follows goes) slash value path of-value e
 
-  pub leads-short : r.fits ≡ true → r.len < length value → true ≡ leads_on goes slash path value
-  leads-short e h = go (drop r.len value) (omega (arith, length-drop r.len value)) ∙ led-some (or_follows goes) slash value path of-value e
-    where
-      go : (l : List ℕ) → 0 < length l → true ≡ or_follows goes r.slash l (drop r.len path)
-      go [] k = absurd (omega arith)
-      go (b ∷ l) k = refl
+  module _ {l : Led} (e : r ≡ Some l) where
+    pub leads-short : l.len < length value → true ≡ leads_on goes slash path value
+    leads-short h = go (drop l.len value) (omega (arith, length-drop l.len value)) ∙ led-some (or_follows goes) slash value path of-value e
+      where
+        go : (v : List ℕ) → 0 < length v → true ≡ or_follows goes l.slash v (drop l.len path)
+        go [] k = absurd (omega arith)
+        go (b ∷ v) k = refl
 
-  pub leads-whole : r.fits ≡ true → length value ≤ r.len → {left : List ℕ} → left ≡ span path r.len (length path) → goes r.slash left ≡ leads_on goes slash path value
-  leads-whole e h q = rw (q, span_rest path r.len, ← led-some (or_follows goes) slash value path of-value e, drop_of_length-le value h)
+    pub leads-whole : length value ≤ l.len → {left : List ℕ} → left ≡ span path l.len (length path) → goes l.slash left ≡ leads_on goes slash path value
+    leads-whole h q = rw (q, span_rest path l.len, ← led-some (or_follows goes) slash value path of-value e, drop_of_length-le value h)
 
 -- of the front of a part of the text
-module _ (slash : Bool) (text : List ℕ) (a e : ℕ) (path : List ℕ) {r : Led} (told : r ≡ lead_of slash (span text a e) path) (fits : r.fits ≡ true) where
-  pub led-within : r.len ≤ length (span text a e)
-  led-within = omega (arith, lead-len slash (span text a e) path r told fits, front-le slash (span text a e))
+module _ (slash : Bool) (text : List ℕ) (a e : ℕ) (path : List ℕ) {r : Option Led} (told : r ≡ lead_of slash (span text a e) path) {l : Led} (is : r ≡ Some l) where
+  pub led-within : l.len ≤ length (span text a e)
+  led-within = omega (arith, lead-len slash (span text a e) path (sym told ∙ is), front-le slash (span text a e))
 
-  pub leads-next : (goes : Bool → List ℕ → List ℕ → Bool) {left : List ℕ} → left ≡ span path r.len (length path) →
-      goes r.slash (span text (a + r.len) e) left ≡ leads goes (span text a e) slash path
-  leads-next goes q = rw (q, span_rest path r.len, ← drop-span text a e r.len) (led-some goes slash (span text a e) path told fits)
+  pub leads-next : (goes : Bool → List ℕ → List ℕ → Bool) {left : List ℕ} → left ≡ span path l.len (length path) →
+      goes l.slash (span text (a + l.len) e) left ≡ leads goes (span text a e) slash path
+  leads-next goes q = rw (q, span_rest path l.len, ← drop-span text a e l.len) (led-some goes slash (span text a e) path told is)
 
 -- ---- one of several
 

@@ -38,21 +38,20 @@ fn leads_on(
 ) -> bool
     ensures { result ≡ leads_on (leads (opens depth (env text.now vars.now n)) (span text.now a e)) slash path.now value.now }
 {
-    let first = lead(value, 0, value.len(), slash, path);
-    if first.fits {
-        let k = first.len;
-        if k < value.len() {
-            return true;
-        }
-        let left = span(path, k, path.len());
-        let next = lead(text, a, e, first.slash, left);
-        if next.fits {
-            let m = next.len;
-            let last = span(left, m, left.len());
-            return may_open(text, vars, n, depth, a + m, e, next.slash, last);
-        }
+    let Some(first) = lead(value, 0, value.len(), slash, path) else {
+        return false;
+    };
+    let k = first.len;
+    if k < value.len() {
+        return true;
     }
-    false
+    let left = span(path, k, path.len());
+    let Some(next) = lead(text, a, e, first.slash, left) else {
+        return false;
+    };
+    let m = next.len;
+    let last = span(left, m, left.len());
+    may_open(text, vars, n, depth, a + m, e, next.slash, last)
 }
 
 // Whether some value of variable w leads on.
@@ -71,15 +70,12 @@ fn value_leads(
     requires { w < 32 }
     ensures { result ≡ some_leads (leads (opens depth (env text.now vars.now n)) (span text.now a e)) slash path.now (values_of text.now vars.now w) }
 {
-    let m = least(16, cell(vars, 64 + w));
-    let mut k = 0;
-    while k < m {
+    for k in 0..least(16, cell(vars, 64 + w)) {
         let j = 96 + 2 * (16 * w + k);
         let value = span(text, cell(vars, j), cell(vars, j + 1));
         if leads_on(text, vars, n, depth, value, a, e, slash, path) {
             return true;
         }
-        k += 1;
     }
     false
 }

@@ -1,10 +1,11 @@
 -- The laws of codes: which are literals, and slashes joined in place.
 use Rattle.std.specs.Prelude.{if◌then◌else◌}
 use mathlib.Core.Path.{◌≡◌, refl, sym, ap, ap₂, ◌∙◌}
-use mathlib.Core.Bool.{Bool, true, false, ◌&&◌, ◌||◌, false≢true}
+use mathlib.Core.Bool.{Bool, true, false, not, ◌&&◌, ◌||◌, false≢true}
 use mathlib.Core.List.{List, [], ◌∷◌, ◌++◌, append_assoc, append-nil, map}
-use Prim.Native.Nat.{ℕ, suc, ◌+◌, ◌≤◌, ◌<◌, min, max}
+use Prim.Native.Nat.{ℕ, suc, ◌+◌, ◌-◌, ◌≤◌, ◌<◌, min, max}
 use Prim.Native.Char.{code}
+use mir.Val.{bool_byte}
 use native.Mathlib.Nat.{le_refl}
 use native.Mathlib.Omega.{arith}
 use native.Mathlib.Numerals.{add-one}
@@ -14,6 +15,7 @@ use lib.Dec.{eqb, ltb, leb}
 use borrow.Author.Tests.{lt-ltb, le-ltb, ltb-true, leb-true, leb-false}
 use Rattle.scan.specs.Bytes.{every}
 use Rattle.scan.proofs.Bools.{or_right}
+use Rattle.scan.proofs.Laws.{drop-take}
 use Rattle.pattern.specs.Pieces.{Piece, Byte, One, Star, StarStar, Class}
 use Rattle.pattern.specs.Expansions.{is_literal, joined_after}
 use Rattle.pattern.specs.Codes.{decode, joined_codes_after}
@@ -31,7 +33,7 @@ literal-decode : (text : List ℕ) (c : ℕ) → is_literal (decode text c) ≡ 
 literal-decode text =
     test-decode is_literal literal_code text (λ c h. sym (lt-ltb c 256 h)) refl refl refl (λ c k h. sym (le-ltb c 256 (omega arith)))
 
-every-literal : (text cs : List ℕ) → every is_literal (map (decode text) cs) ≡ every literal_code cs
+pub every-literal : (text cs : List ℕ) → every is_literal (map (decode text) cs) ≡ every literal_code cs
 unfolding every
 every-literal text [] = refl
 every-literal text (c ∷ cs) = ap₂ ◌&&◌ (literal-decode text c) (every-literal text cs)
@@ -44,10 +46,6 @@ take-least n m l e = go (leb n (length l)) refl
     go : (t : Bool) → leb n (length l) ≡ t → take n l ≡ take m l
     go true s = let h : n ≤ length l = leb-true n (length l) s in let q : m ≡ n = omega arith in rw q
     go false s = let h : length l < n = leb-false n (length l) s in take_all n l (omega arith) ∙ sym (take_all m l (omega arith))
-
--- a test of the codes as far as they go is one of the pieces counted
-pub literal-least : (text l : List ℕ) (n m : ℕ) → m ≡ min n (length l) → every literal_code (take m l) ≡ every is_literal (map (decode text) (take n l))
-literal-least text l n m e = ap (every literal_code) (sym (take-least n m l e)) ∙ sym (every-literal text (take n l))
 
 drop-least : (n m : ℕ) (l k : List ℕ) → m ≡ min n (length l) → length k ≡ length l → drop m k ≡ drop m l → drop n k ≡ drop n l
 drop-least n m l k e same d = go (leb n (length l)) refl
@@ -62,18 +60,6 @@ module _ (l : List ℕ) (n i : ℕ) (h : i < n) (k : n ≤ length l) where
   pub next-code : drop i (take n l) ≡ get_or l i 0 ∷ drop (i + 1) (take n l)
   next-code =
       rw add-one (drop-cons (take n l) i 0 (omega (arith, length-take n l)) ∙ ap (λ (c : ℕ). c ∷ drop (suc i) (take n l)) (get_or-take n l i 0 h))
-
-  pub every-next : (p : ℕ → Bool) → p (get_or l i 0) ≡ true → every p (drop i (take n l)) ≡ every p (drop (i + 1) (take n l))
-  unfolding every
-  every-next p e = ap (every p) next-code ∙ rw e
-
-  pub every-break : (p : ℕ → Bool) → p (get_or l i 0) ≡ false → every p (drop i (take n l)) ≡ false
-  unfolding every
-  every-break p e = ap (every p) next-code ∙ rw e
-
-pub every-done : (p : ℕ → Bool) (l : List ℕ) (n : ℕ) → every p (drop n (take n l)) ≡ true
-unfolding every
-every-done p l n = rw slice_empty
 
 -- ---- slashes joined in place
 
@@ -98,6 +84,11 @@ join-turn codes rest c at r slash h e =
         ≡ (take at codes ++ (if t then [] else c ∷ [])) ++ joined_codes_after (eqb c (code "/")) rest
     go true = let z : at + 0 ≡ at = omega arith in rw (z, take-set-le at codes at c (le_refl at), append-nil)
     go false = rw (add-one, take-suc-set codes at c h)
+
+-- a code that is left out takes no place, another one
+pub kept-from : (t : Bool) → bool_byte (not t) ≡ (if t then 0 else 1)
+kept-from true = refl
+kept-from false = refl
 
 pub kept-le : (t : Bool) (r : ℕ) → r ≡ (if t then 0 else 1) → r ≤ 1
 kept-le true r e = omega arith

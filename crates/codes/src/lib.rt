@@ -1,7 +1,7 @@
 // The codes of an expansion, before it is held to a path.
 #![tactic(auto)]
 
-ghost use Rattle.std.specs.Prelude.{◌≡◌, List, map, ℕ, take, drop, if◌then◌else◌};
+ghost use Rattle.std.specs.Prelude.{◌≡◌, List, map, ℕ, take, drop};
 ghost use Rattle.scan.specs.Bytes.{every};
 ghost use Rattle.pattern.specs.Expansions.{is_literal};
 ghost use Rattle.pattern.specs.Codes.{decode};
@@ -11,7 +11,8 @@ ghost use Rattle.codes.specs.Held.{held_from, held_byte, held_pieces};
 use scan::least;
 
 // How far the first literals of an expansion agree with a path: the place in it, whether a / stands before that,
-// whether a piece that is no literal was met, and whether a literal differed.
+// whether a piece that is no literal was met, and whether a literal differed. Flags, and no enum: `hold`, whose clause is `held_pieces`,
+// is told and tells the place and the slash in each of these states.
 #[derive(Clone, Copy)]
 pub struct Held {
     pub at: usize,
@@ -20,17 +21,10 @@ pub struct Held {
     pub gone: bool,
 }
 
-// The codes of pieces: a literal is its byte; then ?, * and **; then classes.
+// The codes of pieces: a literal is its byte; then ?, * and **; then classes. They stay numbers, as in `matcher`.
 const ONE: u32 = 256;
 
 const SLASH: u32 = 47;
-
-// How many places a code takes that is left out, or kept.
-fn kept(out: bool) -> usize
-    ensures { result ≡ (if out then 0 else 1) }
-{
-    if out { 0 } else { 1 }
-}
 
 // Of the first pieces, as many as counted, neighbouring literal slashes become one, with one that stands before them, or not;
 // how many pieces are left.
@@ -40,14 +34,12 @@ pub fn join_slashes(codes: &mut [u32], count: usize, slash: bool) -> usize
     let n = least(count, codes.len());
     let mut after = slash;
     let mut at = 0;
-    let mut i = 0;
-    while i < n {
+    for i in 0..n {
         let c = codes[i];
         let here = c == SLASH;
         codes[at] = c;
-        at += kept(after & here);
+        at += usize::from(!(after & here));
         after = here;
-        i += 1;
     }
     at
 }
@@ -56,16 +48,7 @@ pub fn join_slashes(codes: &mut [u32], count: usize, slash: bool) -> usize
 pub fn is_literal(codes: &[u32], count: usize) -> bool
     ensures { (text : List ℕ) → result ≡ every is_literal (map (decode text) (take count codes.now)) }
 {
-    let end = least(count, codes.len());
-    let mut seen = 0;
-    while seen < end {
-        if codes[seen] < ONE {
-            seen += 1;
-        } else {
-            return false;
-        }
-    }
-    true
+    codes.iter().take(count).all(|c| *c < ONE)
 }
 
 // Whether a literal differs from the path at a place; one / behind another is passed over.
@@ -91,33 +74,31 @@ pub fn hold(codes: &[u32], from: usize, to: usize, h: Held, path: &[u8]) -> Held
     let end = least(to, codes.len());
     let mut at = h.at;
     let mut slash = h.slash;
-    let mut i = from;
-    while i < end {
+    for i in from..end {
         let c = codes[i];
         if ONE <= c {
             return Held {
-                at: at,
-                slash: slash,
+                at,
+                slash,
                 wild: true,
                 gone: false,
             };
         }
         if differs_at(path, at, slash, c) {
             return Held {
-                at: at,
-                slash: slash,
+                at,
+                slash,
                 wild: false,
                 gone: true,
             };
         }
         let here = c == SLASH;
-        at += kept(slash & here);
+        at += usize::from(!(slash & here));
         slash = here;
-        i += 1;
     }
     Held {
-        at: at,
-        slash: slash,
+        at,
+        slash,
         wild: false,
         gone: false,
     }

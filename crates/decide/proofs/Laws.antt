@@ -1,4 +1,5 @@
 -- What the definitions of the whole answer say, by what the code has read.
+use Rattle.std.proofs.Common.{Option, Some, None}
 use Prim.Native.Nat.{ℕ, zero, suc, ◌+◌, ◌*◌, ◌≤◌, ◌<◌}
 use Prim.Native.Char.{code}
 use mathlib.Core.Path.{◌≡◌, refl, sym, ap, ◌∙◌}
@@ -15,6 +16,8 @@ use Rattle.matcher.specs.Walk.{path_fits}
 use Rattle.statement.specs.Steps.{rules_from}
 use Rattle.profile.specs.Profiles.{File, file_of}
 use Rattle.profile.specs.Places.{Judged, Accepted, Rejected, judged_of, profiles_by, profiles_from, seen_file}
+use Rattle.std.proofs.Common.{Result, Ok, Err}
+use Rattle.text.specs.declared.Refusal.{Refusal}
 use Rattle.profile.specs.declared.FileRead.{FileRead}
 use Rattle.findings.specs.Findings.{Access, findings}
 use Rattle.answer.specs.Answers.{answer_from, refusal}
@@ -23,8 +26,7 @@ use Rattle.request.specs.Requests.{bad_asked, bad_path}
 use Rattle.request.proofs.Laws.{path-short}
 use Rattle.decide.specs.Decide.{answer_by, answer_in, answer_of}
 use Rattle.decide.specs.Places.{found_from}
-use Rattle.decide.specs.declared.Found.{Found}
-use Rattle.decide.specs.declared.Found.TheVariants.{Rules, Nowhere}
+use Rattle.decide.specs.declared.Rules.{Rules}
 
 -- ---- paths
 
@@ -35,7 +37,7 @@ good-fits s e = le-leb (length s) 4095 (path-short s e)
 -- ---- the profile of a name
 
 module _ (s t : List ℕ) (k i : ℕ) (name : List ℕ) where
-  pub found_here : same (bytes_at s t (4 * i)) name ≡ true → found_from s t (suc k) i name ≡ Rules (record { 0 = get_or t (4 * i + 2) 0 }) (get_or t (4 * i + 3) 0)
+  pub found_here : same (bytes_at s t (4 * i)) name ≡ true → found_from s t (suc k) i name ≡ Some (record { at = record { 0 = get_or t (4 * i + 2) 0 }; count = get_or t (4 * i + 3) 0 })
   unfolding found_from
   found_here e = rw (e, found_from)
 
@@ -43,14 +45,14 @@ module _ (s t : List ℕ) (k i : ℕ) (name : List ℕ) where
   unfolding found_from
   found-later e = rw (e, found_from)
 
-pub found_none : (s t : List ℕ) (i : ℕ) (name : List ℕ) → found_from s t 0 i name ≡ Nowhere
+pub found_none : (s t : List ℕ) (i : ℕ) (name : List ℕ) → found_from s t 0 i name ≡ None
 unfolding found_from
 found_none s t i name = refl
 
 -- the answer of the rules that were found
-abbrev pub answer_of_found : List Variable → Access → (asked : ℕ) → List ℕ → Found → Answer
-answer_of_found vs q asked s (Rules at count) = answer_from (findings vs q (rules_from count (pattern_fault vs) s at.0)) asked
-answer_of_found vs q asked s Nowhere = refusal (nowhere 11)
+abbrev pub answer_of_found : List Variable → Access → (asked : ℕ) → List ℕ → Option Rules → Answer
+answer_of_found vs q asked s (Some r) = answer_from (findings vs q (rules_from r.count (pattern_fault vs) s r.at.0)) asked
+answer_of_found vs q asked s None = refusal (nowhere 11)
 
 pub answer-found : (vs : List Variable) (q : Access) (asked : ℕ) (s t : List ℕ) (k i : ℕ) (name : List ℕ)
     → answer_in vs q asked name (profiles_from vs s t k i) ≡ answer_of_found vs q asked s (found_from s t k i name)
@@ -63,13 +65,13 @@ answer-found vs q asked s t (suc k) i name = go (same (bytes_at s t (4 * i)) nam
 
     go : (b : Bool) → answer_in vs q asked name (profiles_from vs s t k (i + 1)) ≡ answer_of_found vs q asked s (found_from s t k (i + 1) name) →
         (elim b as (λ _. Answer) [ true ↦ rules | false ↦ answer_in vs q asked name (profiles_from vs s t k (i + 1)) ])
-        ≡ answer_of_found vs q asked s (elim b as (λ _. Found) [ true ↦ Rules (record { 0 = get_or t (4 * i + 2) 0 }) (get_or t (4 * i + 3) 0) | false ↦ found_from s t k (i + 1) name ])
+        ≡ answer_of_found vs q asked s (elim b as (λ _. Option Rules) [ true ↦ Some (record { at = record { 0 = get_or t (4 * i + 2) 0 }; count = get_or t (4 * i + 3) 0 }) | false ↦ found_from s t k (i + 1) name ])
     go true e = refl
     go false e = e
 
 -- by what was found
-pub answer-by : (vs : List Variable) (q : Access) (asked : ℕ) (s t : List ℕ) (k : ℕ) (name : List ℕ) (r : Found) → r ≡ found_from s t k 0 name →
-    (x : Found) → r ≡ x → answer_in vs q asked name (profiles_from vs s t k 0) ≡ answer_of_found vs q asked s x
+pub answer-by : (vs : List Variable) (q : Access) (asked : ℕ) (s t : List ℕ) (k : ℕ) (name : List ℕ) (r : Option Rules) → r ≡ found_from s t k 0 name →
+    (x : Option Rules) → r ≡ x → answer_in vs q asked name (profiles_from vs s t k 0) ≡ answer_of_found vs q asked s x
 answer-by vs q asked s t k name r e x f = answer-found vs q asked s t k 0 name ∙ ap (answer_of_found vs q asked s) (sym e ∙ f)
 
 -- ---- the text's judgement
@@ -99,7 +101,7 @@ module _ (text n path : List ℕ) (asked : ℕ) (owner : Bool) where
   answer-asked h e k = rw (le-ltb 65535 (length text) h, answer_of, e, k)
 
   -- what was read decides
-  module _ (h : length text ≤ 65535) (e : bad_path path ≡ false) (k : bad_asked asked ≡ false) (t : List ℕ) (r : FileRead) (g : seen_file text t r ≡ judged_of text (file_of text)) where
+  module _ (h : length text ≤ 65535) (e : bad_path path ≡ false) (k : bad_asked asked ≡ false) (t : List ℕ) (r : Result FileRead Refusal) (g : seen_file text t r ≡ judged_of text (file_of text)) where
     abbrev access : Access
     access = record { path = path; owner = owner }
 
@@ -109,14 +111,14 @@ module _ (text n path : List ℕ) (asked : ℕ) (owner : Bool) where
         rw (le-ltb 65535 (length text) h, answer_of, e, k)
         (answer-judged text (file_of text) n access asked ∙ ap (answer_of_judged access asked n) (sym g ∙ f))
 
-    pub answer-rejected : r.refused ≡ true → answer_of text n path asked owner ≡ refusal r.refusal
+    pub answer-rejected : (x : Refusal) → r ≡ Err x → answer_of text n path asked owner ≡ refusal x
     unfolding seen_file
-    answer-rejected f = answer-read {j = Rejected r.refusal} (rw f)
+    answer-rejected x f = answer-read {j = Rejected x} (rw f)
 
-    pub answer-accepted : r.refused ≡ false → {a : Answer} →
-        a ≡ answer_in (env text t r.vars) access asked n (profiles_from (env text t r.vars) text r.profiles r.count 0) →
+    pub answer-accepted : (x : FileRead) → r ≡ Ok x → {a : Answer} →
+        a ≡ answer_in (env text t x.vars) access asked n (profiles_from (env text t x.vars) text x.profiles x.count 0) →
         a ≡ answer_of text n path asked owner
     unfolding seen_file
-    answer-accepted f i =
-        let vs = env text t r.vars in
-        i ∙ sym (answer-read {j = Accepted vs (profiles_from vs text r.profiles r.count 0)} (rw f))
+    answer-accepted x f i =
+        let vs = env text t x.vars in
+        i ∙ sym (answer-read {j = Accepted vs (profiles_from vs text x.profiles x.count 0)} (rw f))

@@ -24,31 +24,29 @@ const BAD_ASKED: u8 = 3;
 
 const NO_PROFILE: u8 = 11;
 
-// The rules of a profile: where they start and how many they are; or that there is no such profile.
+// The rules of a profile: where they start and how many they are.
 #[derive(Clone, Copy)]
-pub enum Found {
-    Rules { at: Place, count: usize },
-    Nowhere,
+pub struct Rules {
+    pub at: Place,
+    pub count: usize,
 }
 
 // The rules of the first of n profiles that has this name.
-fn find(text: &[u8], table: &[usize; 128], n: usize, name: &[u8]) -> Found
+fn find(text: &[u8], table: &[usize; 128], n: usize, name: &[u8]) -> Option<Rules>
     requires { n ≤ 32 }
     ensures { result ≡ found_from text.now table.now n 0 name.now }
 {
-    let mut i = 0;
-    while i < n {
+    for i in 0..n {
         let from = table[4 * i];
         let end = table[4 * i + 1];
         if scan::same_bytes(scan::span(text, from, end), name) {
-            return Found::Rules {
+            return Some(Rules {
                 at: Place(table[4 * i + 2]),
                 count: table[4 * i + 3],
-            };
+            });
         }
-        i += 1;
     }
-    Found::Nowhere
+    None
 }
 
 // The answer of an accepted text, by its first n variables and its profiles.
@@ -65,13 +63,12 @@ fn answer_in(
 ) -> Answer
     requires count_bound { count ≤ 32 }
     requires fits { Fits text.now path.now }
-    ensures { result ≡ answer_in (env text.now vars.now n) (record { path = path.entry.now; owner = owner }) asked.0 name.now (profiles_from (env text.now vars.now n) text.now profiles.now count 0) }
+    ensures { result ≡ answer_in (env text.now vars.now n) (record { path = path.now; owner = owner }) asked.0 name.now (profiles_from (env text.now vars.now n) text.now profiles.now count 0) }
 {
-    let r = find(text, profiles, count, name);
-    let Found::Rules { at, count: rules } = r else {
+    let Some(rules) = find(text, profiles, count, name) else {
         return refused(nowhere(NO_PROFILE));
     };
-    let found = findings_of(text, vars, n, path, owner, rules, at);
+    let found = findings_of(text, vars, n, path, owner, rules.count, rules.at);
     finish(text, found, asked)
 }
 
@@ -89,11 +86,10 @@ pub fn decide(text: &[u8], name: &[u8], path: &[u8], asked: Perms, owner: bool) 
         return refused(nowhere(BAD_ASKED));
     }
     let mut vars = [0usize; 1120];
-    let f = read(text, &mut vars, RULES);
-    let refusal = f.refusal;
-    if f.refused {
-        return refused(refusal);
-    }
+    let f = match read(text, &mut vars, RULES) {
+        Ok(f) => f,
+        Err(refusal) => return refused(refusal),
+    };
     answer_in(
         text,
         &vars,

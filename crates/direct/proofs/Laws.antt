@@ -1,8 +1,8 @@
 -- What is told of a pattern is so: a miss is matched by no expansion, and a hit is a pattern of one expansion, which matches.
-use Rattle.std.specs.Prelude.{if◌then◌else◌}
-use Prim.Native.Nat.{ℕ, zero, suc, ◌+◌, ◌-◌, ◌≤◌}
+use Rattle.std.specs.Prelude.{Option, Some, None, if◌then◌else◌}
+use Prim.Native.Nat.{ℕ, zero, suc, ◌-◌, ◌≤◌, ◌<◌}
 use Prim.Native.Char.{code}
-use mathlib.Core.Path.{◌≡◌, refl, sym, ap, ap₂, ◌∙◌}
+use mathlib.Core.Path.{◌≡◌, refl, sym, ap, ap₂, subst, ◌∙◌}
 use mathlib.Core.List.{List, [], ◌∷◌, ◌++◌, map}
 use mathlib.Core.Bool.{Bool, true, false, not, ◌&&◌, ◌||◌, false≢true, and-false, or-false}
 use native.Mathlib.Omega.{arith}
@@ -12,7 +12,7 @@ use borrow.Author.Tests.{eq-eqb, ne_eqb, eqb-true, eqb-false, ltb-false, le-ltb,
 use Rattle.scan.specs.Bytes.{begins, every, some, is_empty}
 use Rattle.scan.proofs.Bools.{iff, and_left, and_right}
 use Rattle.class.specs.Class.{in_class, good_class}
-use Rattle.pattern.specs.Pieces.{Piece, Byte, One as Any, Star, StarStar, Class, Is, starting, part, extra, up_to, class_part}
+use Rattle.pattern.specs.Pieces.{Piece, Byte, One as One_byte, Star, StarStar, Class, Is, starting, part, extra, up_to, class_part}
 use Rattle.pattern.specs.Items.{Item, Single, item, reach, items, good_item, names_item, pattern_form, pattern_names}
 use Rattle.pattern.specs.Literals.{special, ordinary}
 use Rattle.pattern.specs.Expansions.{Variable, listing, counting, of_items, of_name, expansions, count, longest, is_set, begins_slash, is_slash, is_literal, joined_after}
@@ -24,11 +24,11 @@ use Rattle.matcher.specs.Walk.{repeats_of, takes_of}
 use Rattle.matcher.proofs.Laws.{some-intro, some-elim, matches-nil, matches-one}
 use Rattle.front.specs.Front.{plain_after, front_after, slash_after, some_after, exact_after}
 use Rattle.front.proofs.Laws.{across-one, eqb-turn}
-use Rattle.direct.proofs.Turns.{one-le}
+use Rattle.direct.proofs.Turns.{none-some, some-eq, one-within}
 use Rattle.direct.specs.declared.One.{One}
 use Rattle.direct.specs.declared.Outcome.{Outcome}
 use Rattle.direct.specs.declared.Outcome.TheVariants as outcome
-use Rattle.direct.specs.Direct.{one, class_one, one_at, simple, fitting, star_of, rest_of, outcome_of}
+use Rattle.direct.specs.Direct.{one, class_one, one_at, simple, fitting, star_of, rest_of, step_of, outcome_of}
 
 -- ---- items that are pieces
 
@@ -52,7 +52,7 @@ record OnePiece (slash : Bool) (b : ℕ) (s : List ℕ) (o : One) : Type 0 where
   filled : is_empty s ≡ false
   literal : plain_first slash s ≡ false → is_literal piece ≡ false
 
-items-any : (s : List ℕ) → items 0 (code "?" ∷ s) ≡ alone Any ∷ items 0 s
+items-any : (s : List ℕ) → items 0 (code "?" ∷ s) ≡ alone One_byte ∷ items 0 s
 unfolding items item reach part extra starting
 items-any s = refl
 
@@ -68,15 +68,15 @@ items-stars : (s : List ℕ) → items 0 (code "*" ∷ code "*" ∷ s) ≡ alone
 unfolding items item reach part extra starting
 items-stars s = refl
 
-class-piece : (slash : Bool) (b : ℕ) (s : List ℕ) (n : ℕ) → n ≡ up_to (code "]") s → ((class_one b s n).width ≡ 0 → ⊥) → OnePiece slash b (code "[" ∷ s) (class_one b s n)
-class-piece slash b s zero e h = absurd (h refl)
-class-piece slash b s (suc n) e h = go (good_class (take n s)) refl h
+class-piece : (slash : Bool) (b : ℕ) (s : List ℕ) (n : ℕ) → n ≡ up_to (code "]") s → (o : One) → class_one b s n ≡ Some o → OnePiece slash b (code "[" ∷ s) o
+class-piece slash b s zero e o h = absurd (none-some h)
+class-piece slash b s (suc n) e o h = go (good_class (take n s)) refl h
   where
-    go : (g : Bool) → good_class (take n s) ≡ g → ((if g then one (suc (suc n)) (in_class (take n s) b) else one 0 false).width ≡ 0 → ⊥) →
-        OnePiece slash b (code "[" ∷ s) (if g then one (suc (suc n)) (in_class (take n s) b) else one 0 false)
-    go false q z = absurd (z refl)
+    go : (g : Bool) → good_class (take n s) ≡ g → (if g then one (suc (suc n)) (in_class (take n s) b) else None) ≡ Some o → OnePiece slash b (code "[" ∷ s) o
+    go false q z = absurd (none-some z)
     go true q z =
-        record {
+        subst (OnePiece slash b (code "[" ∷ s)) (some-eq z)
+        (record {
           piece = Class (take n s);
           item = items-class s ∙ rw (← e, q, items-skip (suc n) s);
           single = refl;
@@ -85,23 +85,25 @@ class-piece slash b s (suc n) e h = go (good_class (take n s)) refl h
           slashed = refl;
           filled = refl;
           literal = λ _. refl;
-        }
+        })
 
-one_piece : (slash : Bool) (b : ℕ) (s : List ℕ) → ((one_at slash b s).width ≡ 0 → ⊥) → OnePiece slash b s (one_at slash b s)
+one_piece : (slash : Bool) (b : ℕ) (s : List ℕ) (o : One) → one_at slash b s ≡ Some o → OnePiece slash b s o
 unfolding one_at
-one_piece slash b [] h = absurd (h refl)
-one_piece slash b (c ∷ s) h = go (eqb c (code "?")) (eqb c (code "[")) (plain_after slash c) refl refl refl h
+one_piece slash b [] o h = absurd (none-some h)
+one_piece slash b (c ∷ s) o h = go (eqb c (code "?")) (eqb c (code "[")) (plain_after slash c) refl refl refl h
   where
-    by : (x y z : Bool) → One
-    by x y z = if x then one 1 (no_slash b) else if y then class_one b s (up_to (code "]") s) else if z then one 1 (eqb b c) else one 0 false
+    by : (x y z : Bool) → Option One
+    by x y z = if x then one 1 (no_slash b) else if y then class_one b s (up_to (code "]") s) else if z then one 1 (eqb b c) else None
 
-    go : (x y z : Bool) → eqb c (code "?") ≡ x → eqb c (code "[") ≡ y → plain_after slash c ≡ z → ((by x y z).width ≡ 0 → ⊥) → OnePiece slash b (c ∷ s) (by x y z)
+    go : (x y z : Bool) → eqb c (code "?") ≡ x → eqb c (code "[") ≡ y → plain_after slash c ≡ z → by x y z ≡ Some o → OnePiece slash b (c ∷ s) o
     go true y z p q r h =
         rw (eqb-true c (code "?") p)
-        (record { piece = Any; item = items-any s; single = refl; takes = refl; kept = and-false slash; slashed = refl; filled = refl; literal = λ _. refl })
-    go false true z p q r h = rw (eqb-true c (code "[") q) (class-piece slash b s (up_to (code "]") s) refl h)
+        (subst (OnePiece slash b (code "?" ∷ s)) (some-eq h)
+        (record { piece = One_byte; item = items-any s; single = refl; takes = refl; kept = and-false slash; slashed = refl; filled = refl; literal = λ _. refl }))
+    go false true z p q r h = rw (eqb-true c (code "[") q) (class-piece slash b s (up_to (code "]") s) refl o h)
     go false false true p q r h =
-        record {
+        subst (OnePiece slash b (c ∷ s)) (some-eq h)
+        (record {
           piece = Byte c;
           item = items-ordinary c s (not-true (special c) (and_left (ordinary c) (not (slash && eqb c (code "/"))) r));
           single = refl;
@@ -110,13 +112,13 @@ one_piece slash b (c ∷ s) h = go (eqb c (code "?")) (eqb c (code "[")) (plain_
           slashed = refl;
           filled = refl;
           literal = λ q. absurd (false≢true (sym q ∙ r));
-        }
-    go false false false p q r h = absurd (h refl)
+        })
+    go false false false p q r h = absurd (none-some h)
 
 -- ---- a tail of literals and ?
 
 abbrev piece_of : ℕ → Piece
-piece_of b = if eqb b (code "?") then Any else Byte b
+piece_of b = if eqb b (code "?") then One_byte else Byte b
 
 record Tail (slash : Bool) (t : List ℕ) : Type 0 where
   items-are : items 0 t ≡ map alone (map piece_of t)
@@ -135,7 +137,7 @@ tail-is slash (b ∷ t) e =
         let j : joined_after false (map piece_of t) ≡ map piece_of t = rw c at later.joined in
         rw c
         (record {
-          items-are = items-any t ∙ ap (λ (l : List Item). alone Any ∷ l) later.items-are;
+          items-are = items-any t ∙ ap (λ (l : List Item). alone One_byte ∷ l) later.items-are;
           joined = rw (and-false slash, j);
         })
     go false false p r h later = absurd (false≢true h)
@@ -173,10 +175,10 @@ tail-matches (b ∷ t) p = go (eqb b (code "?")) refl p (tail-matches t)
 
     go : (x : Bool) → eqb b (code "?") ≡ x → (p : List ℕ) → ((p : List ℕ) → matches (map piece_of t) p ≡ (eqb (length t) (length p) && fitting t p)) →
         matches (piece_of b ∷ map piece_of t) p ≡ (eqb (suc (length t)) (length p) && fitting (b ∷ t) p)
-    go true e [] later = rw (e, matches-nil Any (map piece_of t), ne_eqb (suc (length t)) 0 (λ q. omega arith))
+    go true e [] later = rw (e, matches-nil One_byte (map piece_of t), ne_eqb (suc (length t)) 0 (λ q. omega arith))
     go false e [] later = rw (e, matches-nil (Byte b) (map piece_of t), ne_eqb (suc (length t)) 0 (λ q. omega arith))
     go true e (c ∷ p) later =
-        rw (e, matches-one Any (map piece_of t) c p refl, later p, eqb-suc (length t) (length p)) (swap (no_slash c) (eqb (length t) (length p)) (fitting t p))
+        rw (e, matches-one One_byte (map piece_of t) c p refl, later p, eqb-suc (length t) (length p)) (swap (no_slash c) (eqb (length t) (length p)) (fitting t p))
     go false e (c ∷ p) later =
         rw (e, matches-one (Byte b) (map piece_of t) c p refl, later p, eqb-suc (length t) (length p), eqb-turn c b) (swap (eqb b c) (eqb (length t) (length p)) (fitting t p))
 
@@ -311,10 +313,10 @@ pub record Hits (slash : Bool) (s path : List ℕ) : Type 0 where
   pub literal : plain_first slash s ≡ false → every is_literal pieces ≡ is_empty s
 
 module _ (slash : Bool) (path : List ℕ) where
-  abbrev None : List ℕ → Type 0
-  None s = (vs : List Variable) → some_after slash vs s path ≡ false
+  abbrev Unmatched : List ℕ → Type 0
+  Unmatched s = (vs : List Variable) → some_after slash vs s path ≡ false
 
-  star-none : (any : Bool) (t s : List ℕ) → items 0 s ≡ alone (star_piece any) ∷ items 0 t → star_of any t path ≡ outcome.Miss → None s
+  star-none : (any : Bool) (t s : List ℕ) → items 0 s ≡ alone (star_piece any) ∷ items 0 t → star_of any t path ≡ outcome.Miss → Unmatched s
   star-none any t s e o vs =
       let r = star-miss any t path o in
       straight-some vs s (star_piece any ∷ map piece_of t) (starred any t r.tail s e) slash path ∙ rw (star-joined any t r.tail slash) r.whole
@@ -345,7 +347,7 @@ module _ (slash : Bool) (path : List ℕ) where
         go true e = e
         go false e = e
 
-  rest-miss : (s : List ℕ) → rest_of s path ≡ outcome.Miss → None s
+  rest-miss : (s : List ℕ) → rest_of s path ≡ outcome.Miss → Unmatched s
   unfolding rest_of items matches joined_after
   rest-miss [] o vs = straight-some vs [] [] refl slash path ∙ go path o
     where
@@ -396,7 +398,7 @@ module _ (slash : Bool) (b : ℕ) (s path : List ℕ) (o : One) (r : OnePiece sl
   unfolding some_after expansions of_items
   one-some vs = rw (r.item, across-one r.piece (of_items listing (of_name listing vs) (items 0 (drop o.width s)))) (one_each _)
 
-  one-hits : o.takes ≡ true → (o.width ≡ 0 → ⊥) → o.width ≤ length s → Hits (begins (code "/") s) (drop o.width s) path → Hits slash s (b ∷ path)
+  one-hits : o.takes ≡ true → 0 < o.width → o.width ≤ length s → Hits (begins (code "/") s) (drop o.width s) path → Hits slash s (b ∷ path)
   unfolding every
   one-hits t w l h =
       record {
@@ -411,34 +413,37 @@ module _ (slash : Bool) (b : ℕ) (s path : List ℕ) (o : One) (r : OnePiece sl
 pub told-miss : (path s : List ℕ) (slash : Bool) → outcome_of slash s path ≡ outcome.Miss → (vs : List Variable) → some_after slash vs s path ≡ false
 unfolding outcome_of
 told-miss [] s slash e vs = rest-miss slash [] s e vs
-told-miss (b ∷ p) s slash e vs =
-    let o = one_at slash b s in
-    go (eqb o.width 0) o.takes refl refl (λ f. told-miss p (drop o.width s) (begins (code "/") s) f vs) e
+told-miss (b ∷ p) s slash e vs = go (one_at slash b s) refl e (λ o f. told-miss p (drop o.width s) (begins (code "/") s) f vs)
   where
-    go : (x t : Bool) → eqb (one_at slash b s).width 0 ≡ x → (one_at slash b s).takes ≡ t →
-        (outcome_of (begins (code "/") s) (drop (one_at slash b s).width s) p ≡ outcome.Miss → some_after (begins (code "/") s) vs (drop (one_at slash b s).width s) p ≡ false) →
-        (if x then rest_of s (b ∷ p) else if t then outcome_of (begins (code "/") s) (drop (one_at slash b s).width s) p else outcome.Miss) ≡ outcome.Miss →
-        some_after slash vs s (b ∷ p) ≡ false
-    go true t q k later e = rest-miss slash (b ∷ p) s e vs
-    go false true q k later e = one-some slash b s p (one_at slash b s) (one_piece slash b s (eqb-false _ 0 q)) vs ∙ rw (k, later e)
-    go false false q k later e = one-some slash b s p (one_at slash b s) (one_piece slash b s (eqb-false _ 0 q)) vs ∙ rw k
+    later : One → Outcome
+    later o = outcome_of (begins (code "/") s) (drop o.width s) p
+
+    go : (m : Option One) → one_at slash b s ≡ m → step_of m later (rest_of s (b ∷ p)) ≡ outcome.Miss →
+        ((o : One) → later o ≡ outcome.Miss → some_after (begins (code "/") s) vs (drop o.width s) p ≡ false) → some_after slash vs s (b ∷ p) ≡ false
+    go None q e more = rest-miss slash (b ∷ p) s e vs
+    go (Some o) q e more = one-some slash b s p o (one_piece slash b s o q) vs ∙ takes o.takes e
+      where
+        takes : (t : Bool) → (if t then later o else outcome.Miss) ≡ outcome.Miss → (t && some_after (begins (code "/") s) vs (drop o.width s) p) ≡ false
+        takes true e = more o e
+        takes false e = refl
 
 -- a hit is a pattern of one expansion, which matches
 pub told-hit : (path s : List ℕ) (slash : Bool) → outcome_of slash s path ≡ outcome.Hit → Hits slash s path
 unfolding outcome_of
 told-hit [] s slash e = rest-hit slash [] s e
-told-hit (b ∷ p) s slash e =
-    let o = one_at slash b s in
-    go (eqb o.width 0) o.takes refl refl (told-hit p (drop o.width s) (begins (code "/") s)) e
+told-hit (b ∷ p) s slash e = go (one_at slash b s) refl e (λ o f. told-hit p (drop o.width s) (begins (code "/") s) f)
   where
-    go : (x t : Bool) → eqb (one_at slash b s).width 0 ≡ x → (one_at slash b s).takes ≡ t →
-        (outcome_of (begins (code "/") s) (drop (one_at slash b s).width s) p ≡ outcome.Hit → Hits (begins (code "/") s) (drop (one_at slash b s).width s) p) →
-        (if x then rest_of s (b ∷ p) else if t then outcome_of (begins (code "/") s) (drop (one_at slash b s).width s) p else outcome.Miss) ≡ outcome.Hit →
-        Hits slash s (b ∷ p)
-    go true t q k later e = rest-hit slash (b ∷ p) s e
-    go false true q k later e =
-        one-hits slash b s p (one_at slash b s) (one_piece slash b s (eqb-false _ 0 q)) k (eqb-false _ 0 q) (one-le slash b s) (later e)
-    go false false q k later e = absurd (let n : ◌≡◌ {A = ℕ} 0 1 = cc in omega arith)
+    later : One → Outcome
+    later o = outcome_of (begins (code "/") s) (drop o.width s) p
+
+    go : (m : Option One) → one_at slash b s ≡ m → step_of m later (rest_of s (b ∷ p)) ≡ outcome.Hit →
+        ((o : One) → later o ≡ outcome.Hit → Hits (begins (code "/") s) (drop o.width s) p) → Hits slash s (b ∷ p)
+    go None q e more = rest-hit slash (b ∷ p) s e
+    go (Some o) q e more = takes o.takes refl e
+      where
+        takes : (t : Bool) → o.takes ≡ t → (if t then later o else outcome.Miss) ≡ outcome.Hit → Hits slash s (b ∷ p)
+        takes true k e = let w = one-within slash b s o q in one-hits slash b s p o (one_piece slash b s o q) k w.0 w.1 (more o e)
+        takes false k e = absurd (let n : ◌≡◌ {A = ℕ} 0 1 = cc in omega arith)
 
 -- ---- a pattern of pieces only has no fault but of its length and its first piece
 

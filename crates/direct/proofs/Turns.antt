@@ -1,17 +1,17 @@
 -- A turn of each loop, place by place.
-use Rattle.std.specs.Prelude.{if◌then◌else◌}
-use mathlib.Core.Path.{◌≡◌, refl}
-use mathlib.Core.Bool.{Bool, true, false, not, ◌&&◌, ◌||◌}
+use Rattle.std.specs.Prelude.{Option, Some, None, if◌then◌else◌}
+use mathlib.Core.Path.{◌≡◌, refl, ap}
+use mathlib.Core.Bool.{Bool, true, false, not, ◌&&◌, ◌||◌, and-false}
 use mathlib.Core.List.{List, [], ◌∷◌}
 use Prim.Native.Nat.{ℕ, zero, suc, ◌+◌, ◌-◌, ◌≤◌, ◌<◌}
 use Prim.Native.Char.{code}
 use native.Mathlib.Numerals.{add-one}
 use native.Mathlib.Omega.{arith}
 use lib.ListN.{length, take, drop, get_or, drop_of_length-le}
-use lib.Seq.{drop-drop}
 use lib.Dec.{eqb}
 use borrow.Author.Tests.{eq-eqb, ne_eqb, lt-ltb, le-ltb}
-use Rattle.scan.specs.Bytes.{begins, every, some, holds, is_empty, span}
+use Rattle.std.specs.List.{list_all, zip}
+use Rattle.scan.specs.Bytes.{begins, every, some, holds, is_empty}
 use Rattle.scan.proofs.Laws.{no_length}
 use Rattle.class.specs.Class.{in_class, good_class}
 use Rattle.pattern.specs.Pieces.{up_to}
@@ -21,7 +21,7 @@ use Rattle.front.specs.Front.{plain_after}
 use Rattle.front.proofs.Laws.{eqb-turn}
 use Rattle.direct.specs.declared.One.{One}
 use Rattle.direct.specs.declared.Outcome.TheVariants as outcome
-use Rattle.direct.specs.Direct.{one, class_one, one_at, simple, fitting, star_of, rest_of, step_of, outcome_of}
+use Rattle.direct.specs.Direct.{one, class_one, one_at, simple, fitting, star_of, rest_of, outcome_of}
 
 -- ---- a tail is simple
 
@@ -47,82 +47,81 @@ module _ (s : List ℕ) (i : ℕ) (slash : Bool) where
 
 -- ---- it fits the path
 
-module _ (s p : List ℕ) (i : ℕ) where
-  module _ (h : i < length s) (l : i < length p) {t : Bool} (e : t ≡ (if eqb (get_or s i 0) (code "?") then no_slash (get_or p i 0) else eqb (get_or s i 0) (get_or p i 0))) where
-    pub fitting-stop : t ≡ false → false ≡ fitting (drop i s) (drop i p)
-    unfolding fitting
-    fitting-stop z = rw (cons-at s i h, cons-at p i l, fitting, ← e, z)
+-- a byte of the tail takes one of the path
+abbrev pub pair_fits : ℕ × ℕ → Bool
+pair_fits e = if eqb e.0 (code "?") then no_slash e.1 else eqb e.0 e.1
 
-    pub fitting-next : t ≡ true → fitting (drop (i + 1) s) (drop (i + 1) p) ≡ fitting (drop i s) (drop i p)
-    unfolding fitting
-    fitting-next z = rw (cons-at s i h, cons-at p i l, fitting, ← e, z)
+pub fitting-short : (t p : List ℕ) → length p < length t → fitting t p ≡ false
+unfolding fitting
+fitting-short [] p h = absurd (omega arith)
+fitting-short (b ∷ t) [] h = refl
+fitting-short (b ∷ t) (c ∷ p) h = rw (fitting-short t p (omega arith)) (and-false (pair_fits (b, c)))
 
-  pub fitting-short : i < length s → length p ≤ i → fitting (drop i s) (drop i p) ≡ false
-  unfolding fitting
-  fitting-short h l = rw (cons-at s i h, drop_of_length-le p l, fitting)
-
-  pub fitting-end : length s ≤ i → fitting (drop i s) (drop i p) ≡ true
-  unfolding fitting
-  fitting-end h = rw (drop_of_length-le s h)
+pub fitting-all : (t p : List ℕ) → length t ≤ length p → list_all pair_fits (zip t p) ≡ fitting t p
+unfolding fitting
+fitting-all [] p h = refl
+fitting-all (b ∷ t) [] h = absurd (omega arith)
+fitting-all (b ∷ t) (c ∷ p) h = ap (λ (x : Bool). pair_fits (b, c) && x) (fitting-all t p (omega arith))
 
 -- ---- a piece of one byte
 
-class-le : (b : ℕ) (s : List ℕ) (n : ℕ) → n ≤ length s → (class_one b s n).width ≤ suc (length s)
-class-le b s zero h = omega arith
-class-le b s (suc n) h = go (good_class (take n s))
-  where
-    go : (t : Bool) → (if t then one (suc (suc n)) (in_class (take n s) b) else one 0 false).width ≤ suc (length s)
-    go true = omega arith
-    go false = omega arith
+pub none-some : {A : Type 0} {x : A} → None ≡ Some x → ⊥
+none-some e = cc
 
-pub one-le : (slash : Bool) (b : ℕ) (s : List ℕ) → (one_at slash b s).width ≤ length s
-unfolding one_at
-one-le slash b [] = omega arith
-one-le slash b (c ∷ s) = go (eqb c (code "?")) (eqb c (code "[")) (plain_after slash c)
+pub some-eq : {A : Type 0} {x y : A} → Some x ≡ Some y → x ≡ y
+some-eq e = cc
+
+class-within : (b : ℕ) (s : List ℕ) (n : ℕ) → n ≤ length s → (o : One) → class_one b s n ≡ Some o → (0 < o.width) × (o.width ≤ suc (length s))
+class-within b s zero h o e = absurd (none-some e)
+class-within b s (suc n) h o e = go (good_class (take n s)) e
   where
-    go : (x y z : Bool) → (if x then one 1 (no_slash b) else if y then class_one b s (up_to (code "]") s) else if z then one 1 (eqb b c) else one 0 false).width ≤ suc (length s)
-    go true y z = omega arith
-    go false true z = class-le b s (up_to (code "]") s) (up_to-le (code "]") s)
-    go false false true = omega arith
-    go false false false = omega arith
+    go : (t : Bool) → (if t then one (suc (suc n)) (in_class (take n s) b) else None) ≡ Some o → (0 < o.width) × (o.width ≤ suc (length s))
+    go true e = rw (← some-eq e) (omega arith, omega arith)
+    go false e = absurd (none-some e)
+
+-- it is written by some bytes of the pattern
+pub one-within : (slash : Bool) (b : ℕ) (s : List ℕ) (o : One) → one_at slash b s ≡ Some o → (0 < o.width) × (o.width ≤ length s)
+unfolding one_at
+one-within slash b [] o e = absurd (none-some e)
+one-within slash b (c ∷ s) o e = go (eqb c (code "?")) (eqb c (code "[")) (plain_after slash c) e
+  where
+    go : (x y z : Bool) → (if x then one 1 (no_slash b) else if y then class_one b s (up_to (code "]") s) else if z then one 1 (eqb b c) else None) ≡ Some o → (0 < o.width) × (o.width ≤ suc (length s))
+    go true y z e = rw (← some-eq e) (omega arith, omega arith)
+    go false true z e = class-within b s (up_to (code "]") s) (up_to-le (code "]") s) o e
+    go false false true e = rw (← some-eq e) (omega arith, omega arith)
+    go false false false e = absurd (none-some e)
 
 -- a class, good or not
-pub class-one : (b : ℕ) (s class : List ℕ) (at n : ℕ) → n ≡ up_to (code "]") (drop at s) → (n ≡ 0 → ⊥) → class ≡ span s at (at + n - 1) → (t : Bool) → t ≡ good_class class →
-    (if t then one (n + 1) (in_class class b) else one 0 false) ≡ class_one b (drop at s) (up_to (code "]") (drop at s))
-class-one b s class at n e h c t g = rw (← e) (go n h c)
+pub class-one : (b : ℕ) (s class : List ℕ) (n : ℕ) → n ≡ up_to (code "]") s → (n ≡ 0 → ⊥) → class ≡ take (n - 1) s → (t : Bool) → t ≡ good_class class →
+    (if t then one (n + 1) (in_class class b) else None) ≡ class_one b s (up_to (code "]") s)
+class-one b s class n e h c t g = rw (← e) (go n h c)
   where
-    go : (n : ℕ) → (n ≡ 0 → ⊥) → class ≡ span s at (at + n - 1) → (if t then one (n + 1) (in_class class b) else one 0 false) ≡ class_one b (drop at s) n
+    go : (n : ℕ) → (n ≡ 0 → ⊥) → class ≡ take (n - 1) s → (if t then one (n + 1) (in_class class b) else None) ≡ class_one b s n
     go zero h c = absurd (h refl)
     go (suc n) h c =
-        let k : at + suc n - 1 - at ≡ n = omega arith in
-        let d : class ≡ take n (drop at s) = rw k at c in
+        let k : suc n - 1 ≡ n = omega arith in
+        let d : class ≡ take n s = rw k at c in
         rw (add-one (suc n), g, d)
 
-module _ (s : List ℕ) (at : ℕ) (slash : Bool) (b : ℕ) where
-  pub one_end : length s ≤ at → one 0 false ≡ one_at slash b (drop at s)
+module _ (slash : Bool) (b : ℕ) (s : List ℕ) (c : ℕ) (r : List ℕ) (w : s ≡ c ∷ r) where
+  pub one-any : c ≡ code "?" → one 1 (no_slash b) ≡ one_at slash b s
   unfolding one_at
-  one_end h = rw (drop_of_length-le s h)
+  one-any e = rw (w, one_at, eq-eqb c (code "?") e)
 
-  module _ (h : at < length s) where
-    pub one-any : get_or s at 0 ≡ code "?" → one 1 (no_slash b) ≡ one_at slash b (drop at s)
+  module _ (q : c ≡ code "?" → ⊥) where
+    pub one-class : c ≡ code "[" → class_one b r (up_to (code "]") r) ≡ one_at slash b s
     unfolding one_at
-    one-any e = rw (cons-at s at h, one_at, eq-eqb (get_or s at 0) (code "?") e)
+    one-class e = rw (w, one_at, ne_eqb c (code "?") q, eq-eqb c (code "[") e)
 
-    module _ (q : get_or s at 0 ≡ code "?" → ⊥) where
-      pub one_class : get_or s at 0 ≡ code "[" → class_one b (drop (at + 1) s) (up_to (code "]") (drop (at + 1) s)) ≡ one_at slash b (drop at s)
-      unfolding one_at
-      one_class e = rw (cons-at s at h, one_at, ne_eqb (get_or s at 0) (code "?") q, eq-eqb (get_or s at 0) (code "[") e)
-
-      pub one_plain : (get_or s at 0 ≡ code "[" → ⊥) → (t : Bool) → t ≡ plain_after slash (get_or s at 0) →
-          (if t then one 1 (eqb b (get_or s at 0)) else one 0 false) ≡ one_at slash b (drop at s)
-      unfolding one_at
-      one_plain n t e =
-          rw (cons-at s at h, one_at)
-          (go (eqb (get_or s at 0) (code "?")) (eqb (get_or s at 0) (code "[")) (plain_after slash (get_or s at 0)) (class_one b (drop (at + 1) s) (up_to (code "]") (drop (at + 1) s))) (ne_eqb (get_or s at 0) (code "?") q) (ne_eqb (get_or s at 0) (code "[") n) e)
-        where
-          go : (x y z : Bool) (l : One) → x ≡ false → y ≡ false → t ≡ z →
-              (if t then one 1 (eqb b (get_or s at 0)) else one 0 false) ≡ (if x then one 1 (no_slash b) else if y then l else if z then one 1 (eqb b (get_or s at 0)) else one 0 false)
-          go x y z l p r w = rw (p, r, w)
+    pub one-plain : (c ≡ code "[" → ⊥) → (t : Bool) → t ≡ plain_after slash c → (if t then one 1 (eqb b c) else None) ≡ one_at slash b s
+    unfolding one_at
+    one-plain n t e =
+        rw (w, one_at)
+        (go (eqb c (code "?")) (eqb c (code "[")) (plain_after slash c) (class_one b r (up_to (code "]") r)) (ne_eqb c (code "?") q) (ne_eqb c (code "[") n) e)
+      where
+        go : (x y z : Bool) (l : Option One) → x ≡ false → y ≡ false → t ≡ z →
+            (if t then one 1 (eqb b c) else None) ≡ (if x then one 1 (no_slash b) else if y then l else if z then one 1 (eqb b c) else None)
+        go x y z l p r w = rw (p, r, w)
 
 -- ---- a star
 
@@ -165,48 +164,57 @@ module _ (any : Bool) (tail path : List ℕ) {t : Bool} (e : t ≡ simple false 
 -- ---- what is left
 
 module _ (s path : List ℕ) where
-  pub rest-ends : length s ≡ 0 → (if eqb (length path) 0 then outcome.Hit else outcome.Miss) ≡ rest_of s path
+  pub rest-ends : length s ≡ 0 → (t : Bool) → t ≡ eqb (length path) 0 → (if t then outcome.Hit else outcome.Miss) ≡ rest_of s path
   unfolding rest_of
-  rest-ends h = rw (no_length s h) (go path)
+  rest-ends h t e = rw (no_length s h, e) (go path)
     where
       go : (p : List ℕ) → (if eqb (length p) 0 then outcome.Hit else outcome.Miss) ≡ (if is_empty p then outcome.Hit else outcome.Miss)
       go [] = refl
       go (b ∷ p) = rw (ne_eqb (suc (length p)) 0 (λ q. omega arith))
 
-  pub rest-open : (length s ≡ 0 → ⊥) → (get_or s 0 0 ≡ code "*" → ⊥) → outcome.Open ≡ rest_of s path
+  pub rest-open : 0 < length s → (get_or s 0 0 ≡ code "*" → ⊥) → outcome.Open ≡ rest_of s path
   unfolding rest_of
   rest-open h e = go s h e
     where
-      go : (s : List ℕ) → (length s ≡ 0 → ⊥) → (get_or s 0 0 ≡ code "*" → ⊥) → outcome.Open ≡ rest_of s path
-      go [] h e = absurd (h refl)
+      go : (s : List ℕ) → 0 < length s → (get_or s 0 0 ≡ code "*" → ⊥) → outcome.Open ≡ rest_of s path
+      go [] h e = absurd (omega arith)
       go (c ∷ s) h e = rw (ne_eqb c (code "*") e)
 
-  module _ (h : length s ≡ 0 → ⊥) (e : get_or s 0 0 ≡ code "*") where
-    pub rest-star : (t : Bool) → t ≡ begins (code "*") (drop 1 s) → (if t then star_of true (drop 2 s) path else star_of false (drop 1 s) path) ≡ rest_of s path
+  module _ (h : 0 < length s) (e : get_or s 0 0 ≡ code "*") where
+    pub rest-stars : 1 < length s → get_or s 1 0 ≡ code "*" → star_of true (drop 2 s) path ≡ rest_of s path
     unfolding rest_of
-    rest-star t b = go s h e b
+    rest-stars l k = go s h e l k
       where
-        go : (s : List ℕ) → (length s ≡ 0 → ⊥) → get_or s 0 0 ≡ code "*" → t ≡ begins (code "*") (drop 1 s) → (if t then star_of true (drop 2 s) path else star_of false (drop 1 s) path) ≡ rest_of s path
-        go [] h e b = absurd (h refl)
-        go (c ∷ s) h e b = rw (eq-eqb c (code "*") e, b, drop-drop 1 1 (c ∷ s))
+        go : (s : List ℕ) → 0 < length s → get_or s 0 0 ≡ code "*" → 1 < length s → get_or s 1 0 ≡ code "*" → star_of true (drop 2 s) path ≡ rest_of s path
+        go [] h e l k = absurd (omega arith)
+        go (b ∷ []) h e l k = absurd (omega arith)
+        go (b ∷ c ∷ s) h e l k = rw (eq-eqb b (code "*") e, eq-eqb c (code "*") k)
 
--- ---- the walk
+    pub rest-star : (1 < length s → get_or s 1 0 ≡ code "*" → ⊥) → star_of false (drop 1 s) path ≡ rest_of s path
+    unfolding rest_of
+    rest-star n = go s h e n
+      where
+        go : (s : List ℕ) → 0 < length s → get_or s 0 0 ≡ code "*" → (1 < length s → get_or s 1 0 ≡ code "*" → ⊥) → star_of false (drop 1 s) path ≡ rest_of s path
+        go [] h e n = absurd (omega arith)
+        go (b ∷ []) h e n = rw (eq-eqb b (code "*") e)
+        go (b ∷ c ∷ s) h e n = rw (eq-eqb b (code "*") e, ne_eqb c (code "*") (n (omega arith)))
 
-module _ (s p : List ℕ) (i k : ℕ) (slash : Bool) (o : One) (h : k < length p) (e : o ≡ one_at slash (get_or p k 0) (drop i s)) where
-  outcome-at : outcome_of slash (drop i s) (drop k p) ≡ step_of o (outcome_of (begins (code "/") (drop i s)) (drop o.width (drop i s)) (drop (k + 1) p)) (rest_of (drop i s) (drop k p))
+-- ---- a turn of the comparing
+
+module _ (slash : Bool) (s : List ℕ) (b : ℕ) (p path : List ℕ) (w : path ≡ b ∷ p) where
+  pub outcome-rest : None ≡ one_at slash b s → rest_of s path ≡ outcome_of slash s path
   unfolding outcome_of
-  outcome-at = rw (e, cons-at p k h, outcome_of)
+  outcome-rest e = rw (w, outcome_of, ← e)
 
-  pub outcome-rest : o.width ≡ 0 → rest_of (drop i s) (drop k p) ≡ outcome_of slash (drop i s) (drop k p)
-  outcome-rest z = rw (outcome-at, z)
+  module _ (o : One) (e : Some o ≡ one_at slash b s) where
+    pub outcome-miss : o.takes ≡ false → outcome.Miss ≡ outcome_of slash s path
+    unfolding outcome_of
+    outcome-miss t = rw (w, outcome_of, ← e, t)
 
-  pub outcome-miss : (o.width ≡ 0 → ⊥) → o.takes ≡ false → outcome.Miss ≡ outcome_of slash (drop i s) (drop k p)
-  outcome-miss z t = rw (outcome-at, ne_eqb o.width 0 z, t)
+    pub outcome-next : o.takes ≡ true → outcome_of (begins (code "/") s) (drop o.width s) p ≡ outcome_of slash s path
+    unfolding outcome_of
+    outcome-next t = rw (w, outcome_of, ← e, t)
 
-  pub outcome-next : (o.width ≡ 0 → ⊥) → o.takes ≡ true →
-      outcome_of (begins (code "/") (drop i s)) (drop (i + o.width) s) (drop (k + 1) p) ≡ outcome_of slash (drop i s) (drop k p)
-  outcome-next z t = rw (outcome-at, ne_eqb o.width 0 z, t, drop-drop)
-
-pub outcome-end : (s p : List ℕ) (k : ℕ) (slash : Bool) → length p ≤ k → rest_of s (drop k p) ≡ outcome_of slash s (drop k p)
+pub outcome-end : (slash : Bool) (s path : List ℕ) → length path ≡ 0 → rest_of s path ≡ outcome_of slash s path
 unfolding outcome_of
-outcome-end s p k slash h = rw (drop_of_length-le p h)
+outcome-end slash s path h = rw (no_length path h)

@@ -1,6 +1,6 @@
 -- What a pattern says of a path as it is written, where it has no choices: pieces of one byte each, then one star or none, then
 -- literals and ? up to its end.
-use Rattle.std.specs.Prelude.{ℕ, zero, suc, ◌-◌, List, [], ◌∷◌, Bool, true, false, not, ◌&&◌, ◌||◌, length, take, drop, eqb, ltb, if◌then◌else◌}
+use Rattle.std.specs.Prelude.{Option, Some, None, ℕ, zero, suc, ◌-◌, List, [], ◌∷◌, Bool, true, false, not, ◌&&◌, ◌||◌, length, take, drop, eqb, ltb, if◌then◌else◌}
 use Prim.Native.Char.{code}
 use Rattle.scan.specs.Bytes.{begins, every, is_empty}
 use Rattle.class.specs.Class.{in_class, good_class}
@@ -13,23 +13,23 @@ use Rattle.direct.specs.declared.Outcome.TheVariants as outcome
 
 -- ---- a piece of one byte
 
--- how many bytes write it, and whether it takes the path's; none is written by no byte
-abbrev pub one : ℕ → Bool → One
-one n t = record { width = n; takes = t }
+-- how many bytes write it, and whether it takes the path's
+abbrev pub one : ℕ → Bool → Option One
+one n t = Some (record { width = n; takes = t })
 
 -- a class by what follows its [, of n bytes with the ]
-abbrev pub class_one : (b : ℕ) → List ℕ → ℕ → One
-class_one b s zero = one 0 false
-class_one b s (suc n) = if good_class (take n s) then one (suc (suc n)) (in_class (take n s) b) else one 0 false
+abbrev pub class_one : (b : ℕ) → List ℕ → ℕ → Option One
+class_one b s zero = None
+class_one b s (suc n) = if good_class (take n s) then one (suc (suc n)) (in_class (take n s) b) else None
 
 -- the one that a pattern begins with, behind a / or not, against the byte b: ?, a class, or a literal that no slash joins
-unfoldable pub one_at : (slash : Bool) → (b : ℕ) → List ℕ → One
-one_at slash b [] = one 0 false
+unfoldable pub one_at : (slash : Bool) → (b : ℕ) → List ℕ → Option One
+one_at slash b [] = None
 one_at slash b (c ∷ s) =
     if eqb c (code "?") then one 1 (no_slash b)
     else if eqb c (code "[") then class_one b s (up_to (code "]") s)
     else if plain_after slash c then one 1 (eqb b c)
-    else one 0 false
+    else None
 
 -- ---- a star
 
@@ -60,9 +60,10 @@ rest_of (c ∷ s) path =
 
 -- ---- a pattern behind a / or not
 
-abbrev pub step_of : One → (later rest : Outcome) → Outcome
-step_of o later rest = if eqb o.width 0 then rest else if o.takes then later else outcome.Miss
+abbrev pub step_of : Option One → (later : One → Outcome) → (rest : Outcome) → Outcome
+step_of None later rest = rest
+step_of (Some o) later rest = if o.takes then later o else outcome.Miss
 
 unfoldable pub outcome_of : (slash : Bool) → (pattern path : List ℕ) → Outcome
 outcome_of slash s [] = rest_of s []
-outcome_of slash s (b ∷ p) = step_of (one_at slash b s) (outcome_of (begins (code "/") s) (drop (one_at slash b s).width s) p) (rest_of s (b ∷ p))
+outcome_of slash s (b ∷ p) = step_of (one_at slash b s) (λ o. outcome_of (begins (code "/") s) (drop o.width s) p) (rest_of s (b ∷ p))

@@ -1,16 +1,15 @@
 // A pattern without choices against a path, as it is written: nothing is expanded, measured or cleared.
 #![tactic(auto)]
 
-ghost use Rattle.std.specs.Prelude.{◌≡◌, false, ◌≤◌, eqb, length, drop, if◌then◌else◌};
+ghost use Rattle.std.specs.Prelude.{◌≡◌, false, eqb, if◌then◌else◌};
 ghost use Rattle.pattern.specs.Pieces.{up_to};
 ghost use Rattle.matcher.specs.Match.{no_slash};
-ghost use Rattle.direct.specs.declared.Outcome.TheVariants.{Miss};
 ghost use Rattle.direct.specs.Direct.{class_one, fitting, one_at, outcome_of, rest_of, simple, star_of};
 
 use class::{good_class, in_class};
 use ends::up_to;
 use front::plain;
-use scan::{begins_at, holds_byte, span};
+use scan::{begins_at, holds_byte};
 
 // What is told: the pattern does not match the path, it does if it has no fault, or that is not told here.
 #[derive(Clone, Copy)]
@@ -20,104 +19,53 @@ pub enum Outcome {
     Open,
 }
 
-// A piece of one byte: how many bytes of the pattern write it, none where there is no such piece, and whether it takes the path's byte.
+// A piece of one byte: how many bytes of the pattern write it, and whether it takes the path's byte.
 #[derive(Clone, Copy)]
 pub struct One {
     pub width: usize,
     pub takes: bool,
 }
 
-// How far pieces of one byte went in the pattern and in the path, or that one of them did not take its byte.
-#[derive(Clone, Copy)]
-struct Reached {
-    gone: bool,
-    at: usize,
-    taken: usize,
-}
-
 // ---- pieces of one byte
 
-// The class whose [ stands before a place, against a byte.
-fn class_at(s: &[u8], at: usize, b: u8) -> One
-    requires { at ≤ length s.now }
-    ensures { result ≡ class_one b (drop at s.now) (up_to 93 (drop at s.now)) }
+// The class that a pattern begins with behind its [, against a byte; none where it is not good.
+fn class_one(s: &[u8], b: u8) -> Option<One>
+    ensures { result ≡ class_one b s.now (up_to 93 s.now) }
 {
-    let n = up_to(s, at, b']');
+    let n = up_to(s, 0, b']');
     if n != 0 {
-        let class = span(s, at, at + n - 1);
+        let class = &s[..n - 1];
         if good_class(class) {
-            return One {
+            return Some(One {
                 width: n + 1,
                 takes: in_class(class, b),
-            };
+            });
         }
     }
-    One {
-        width: 0,
-        takes: false,
-    }
+    None
 }
 
-// The piece of one byte at a place of a pattern, behind a / or not, against a byte.
-fn one_at(s: &[u8], at: usize, slash: bool, b: u8) -> One
-    ensures { result ≡ one_at slash b (drop at s.now) }
+// The piece of one byte that a pattern begins with, behind a / or not, against a byte.
+fn first_one(s: &[u8], slash: bool, b: u8) -> Option<One>
+    ensures { result ≡ one_at slash b s.now }
 {
-    if at < s.len() {
-        let c = s[at];
-        if c == b'?' {
-            return One {
-                width: 1,
-                takes: b != b'/',
-            };
-        }
-        if c == b'[' {
-            return class_at(s, at + 1, b);
-        }
-        if plain(c, slash) {
-            return One {
-                width: 1,
-                takes: b == c,
-            };
-        }
+    let (c, behind) = s.split_first()?;
+    if *c == b'?' {
+        return Some(One {
+            width: 1,
+            takes: b != b'/',
+        });
     }
-    One {
-        width: 0,
-        takes: false,
+    if *c == b'[' {
+        return class_one(behind, b);
     }
-}
-
-// Pieces of one byte each, from the front, against the bytes of the path.
-fn walk(s: &[u8], slash: bool, path: &[u8]) -> Reached
-    ensures { (if result.gone then Miss else rest_of (drop result.at s.now) (drop result.taken path.now)) ≡ outcome_of slash s.now path.now }
-{
-    let mut after = slash;
-    let mut i = 0;
-    let mut k = 0;
-    while k < path.len() {
-        let one = one_at(s, i, after, path[k]);
-        if one.width == 0 {
-            return Reached {
-                gone: false,
-                at: i,
-                taken: k,
-            };
-        }
-        if !one.takes {
-            return Reached {
-                gone: true,
-                at: 0,
-                taken: 0,
-            };
-        }
-        after = begins_at(s, i, b'/');
-        i += one.width;
-        k += 1;
+    if plain(*c, slash) {
+        return Some(One {
+            width: 1,
+            takes: b == *c,
+        });
     }
-    Reached {
-        gone: false,
-        at: i,
-        taken: k,
-    }
+    None
 }
 
 // ---- a star and what follows it
@@ -127,14 +75,11 @@ fn is_simple(tail: &[u8]) -> bool
     ensures { result ≡ simple false tail.now }
 {
     let mut slash = false;
-    let mut i = 0;
-    while i < tail.len() {
-        let b = tail[i];
-        if !(plain(b, slash) | (b == b'?')) {
+    for b in tail {
+        if !(plain(*b, slash) | (*b == b'?')) {
             return false;
         }
-        slash = b == b'/';
-        i += 1;
+        slash = *b == b'/';
     }
     true
 }
@@ -153,17 +98,10 @@ fn takes(b: u8, c: u8) -> bool
 fn fits(tail: &[u8], path: &[u8]) -> bool
     ensures { result ≡ fitting tail.now path.now }
 {
-    let mut i = 0;
-    while i < tail.len() {
-        if path.len() <= i {
-            return false;
-        }
-        if !takes(tail[i], path[i]) {
-            return false;
-        }
-        i += 1;
+    if path.len() < tail.len() {
+        return false;
     }
-    true
+    tail.iter().zip(path).all(|(b, c)| takes(*b, *c))
 }
 
 // A star that takes any bytes, or those that are no /, and a tail behind it.
@@ -189,19 +127,16 @@ fn star(any: bool, tail: &[u8], path: &[u8]) -> Outcome
 fn rest(s: &[u8], path: &[u8]) -> Outcome
     ensures { result ≡ rest_of s.now path.now }
 {
-    if s.len() == 0 {
-        if path.len() == 0 {
-            return Outcome::Hit;
-        }
-        return Outcome::Miss;
+    match s {
+        [] => if path.is_empty() {
+            Outcome::Hit
+        } else {
+            Outcome::Miss
+        },
+        [b'*', b'*', tail @ ..] => star(true, tail, path),
+        [b'*', tail @ ..] => star(false, tail, path),
+        _ => Outcome::Open,
     }
-    if s[0] != b'*' {
-        return Outcome::Open;
-    }
-    if begins_at(s, 1, b'*') {
-        return star(true, &s[2..], path);
-    }
-    star(false, &s[1..], path)
 }
 
 // ---- a pattern
@@ -210,9 +145,19 @@ fn rest(s: &[u8], path: &[u8]) -> Outcome
 pub fn compare(s: &[u8], slash: bool, path: &[u8]) -> Outcome
     ensures { result ≡ outcome_of slash s.now path.now }
 {
-    let w = walk(s, slash, path);
-    if w.gone {
-        return Outcome::Miss;
+    let mut left = s;
+    let mut after = slash;
+    let mut bytes = path;
+    while let [b, behind @ ..] = bytes {
+        let Some(one) = first_one(left, after, *b) else {
+            return rest(left, bytes);
+        };
+        if !one.takes {
+            return Outcome::Miss;
+        }
+        after = begins_at(left, 0, b'/');
+        left = &left[one.width..];
+        bytes = behind;
     }
-    rest(span(s, w.at, s.len()), span(path, w.taken, path.len()))
+    rest(left, bytes)
 }

@@ -8,7 +8,7 @@ ghost use Rattle.pattern.specs.Literals.{ordinary};
 ghost use Rattle.pattern.specs.Items.{before};
 ghost use Rattle.pattern.specs.Places.{part_end, item_end};
 
-use scan::begins_at;
+use scan::{begins_at, end_of};
 
 // Whether b is a literal whatever stands behind it. Most bytes are small letters, which are told by one comparison.
 pub fn is_ordinary(b: u8) -> bool
@@ -17,42 +17,27 @@ pub fn is_ordinary(b: u8) -> bool
     if (b'a' <= b) & (b <= b'z') {
         return true;
     }
-    !((b == b'\\')
-        | (b == b'?')
-        | (b == b'*')
-        | (b == b'[')
-        | (b == b']')
-        | (b == b'{')
-        | (b == b'}')
-        | (b == b'@')
-        | (b == b'^'))
+    !matches!(
+        b,
+        b'\\' | b'?' | b'*' | b'[' | b']' | b'{' | b'}' | b'@' | b'^'
+    )
 }
 
 // The place after the ordinary bytes from a place on.
 pub fn literal_end(s: &[u8], at: usize) -> usize
     ensures { result ≡ at + run ordinary (drop at s.now) }
 {
-    let mut end = at;
-    while end < s.len() {
-        if is_ordinary(s[end]) {
-            end += 1;
-        } else {
-            return end;
-        }
-    }
-    end
+    end_of(s, at, is_ordinary)
 }
 
 // How many bytes stand from a place up to the first c and with it; 0 where there is no c.
+// A number and no Option: extra and class_one take it as the definition up_to gives it, 0 for no class and no use.
 pub fn up_to(s: &[u8], at: usize, c: u8) -> usize
     ensures { result ≡ up_to c (drop at s.now) }
 {
-    let mut i = at;
-    while i < s.len() {
-        if s[i] == c {
-            return i - at + 1;
-        }
-        i += 1;
+    let end = end_of(s, at, |b| b != c);
+    if end < s.len() {
+        return end - at + 1;
     }
     0
 }
@@ -61,25 +46,19 @@ pub fn up_to(s: &[u8], at: usize, c: u8) -> usize
 fn part_extra(b: u8, s: &[u8], at: usize) -> usize
     ensures { result ≡ extra b (drop at s.now) }
 {
-    if b == b'\\' {
-        if at < s.len() {
-            return 1;
+    match b {
+        b'\\' => usize::from(at < s.len()),
+        b'*' => usize::from(begins_at(s, at, b'*')),
+        b'[' => up_to(s, at, b']'),
+        b'@' => {
+            if begins_at(s, at, b'{') {
+                up_to(s, at, b'}')
+            } else {
+                0
+            }
         }
-        return 0;
+        _ => 0,
     }
-    if b == b'*' {
-        if begins_at(s, at, b'*') {
-            return 1;
-        }
-        return 0;
-    }
-    if b == b'[' {
-        return up_to(s, at, b']');
-    }
-    if (b == b'@') & begins_at(s, at, b'{') {
-        return up_to(s, at, b'}');
-    }
-    0
 }
 
 // The place after the part at a place.
@@ -97,10 +76,7 @@ pub fn seek(s: &[u8], at: usize, c: u8) -> usize
     ensures { result ≡ at + before c 0 (drop at s.now) }
 {
     let mut place = at;
-    while place < s.len() {
-        if s[place] == c {
-            return place;
-        }
+    while (place < s.len()) && (s[place] != c) {
         place = part_end(s, place);
     }
     place
@@ -110,15 +86,11 @@ pub fn seek(s: &[u8], at: usize, c: u8) -> usize
 pub fn item_end(s: &[u8], at: usize) -> usize
     ensures { result ≡ item_end s.now at }
 {
-    if s.len() <= at {
-        return s.len();
-    }
-    if s[at] != b'{' {
-        return part_end(s, at);
-    }
-    let j = seek(s, at + 1, b'}');
-    if j < s.len() {
-        return j + 1;
+    if begins_at(s, at, b'{') {
+        let end = seek(s, at + 1, b'}');
+        if end < s.len() {
+            return end + 1;
+        }
     }
     part_end(s, at)
 }

@@ -1,25 +1,18 @@
 -- What is still to come from a cursor.
+use Rattle.std.proofs.Common.{Option, Some, None}
 use Prim.Native.Nat.{ℕ, zero, suc, ◌+◌, ◌*◌, ◌-◌, ◌≤◌, ◌<◌, min}
 use mathlib.Core.Path.{◌≡◌, refl, sym, ap, ap₂, ◌∙◌}
 use mathlib.Core.List.{List, [], ◌∷◌, ◌++◌, map}
-use mathlib.Core.Bool.{true, false}
-use mathlib.Core.Logic.{⊎_elim}
-use types.Run.{OneOf}
-use denote.Enum.Declared.{tag_of}
 use lib.ListN.{get_or, drop}
 use lib.Seq.{get_or-drop}
 use native.Mathlib.Omega.{arith}
 use borrow.Author.Tests.{lt-ltb, le-ltb}
-use Rattle.text.specs.Reading.{Reading}
+use Rattle.text.specs.Reading.{Reading, Read}
 use Rattle.text.specs.declared.Place.{Place}
-use Rattle.rule.specs.Rules.{Rule, Step, rule_at}
+use Rattle.rule.specs.Rules.{Rule, RuleRead, Step, More, rule_at}
 use Rattle.rule.specs.Places.{rule_of}
 use Rattle.rule.specs.declared as code
 use Rattle.statement.specs.Steps.{rule_then, rules_from}
-use Rattle.statement.specs.Places.{profile_in, seen_step}
-use Rattle.statement.specs.declared.Step as told
-use Rattle.statement.specs.declared.Step.TheVariants as step
-use Rattle.statement.specs.contracts.Step.{the_type}
 use Rattle.profile.specs.Places.{profiles_again, profiles_by}
 use Rattle.entries.specs.Entries.{Entry, entry, entries_from, entry_of}
 use Rattle.entries.specs.Ahead.{Left, cursor_at, left_of, one_of, rest_from}
@@ -30,13 +23,13 @@ use Rattle.entries.specs.declared.Record.{Record}
 -- ---- the rules of one profile
 
 -- no rule is left of a cursor's profile
-none_left : (text : List ℕ) (c : Cursor) (r : Next) → left_of text c ≡ [] → r.some ≡ false → r.next ≡ c → Left text c r
-none_left text c r e f g = record { one = rw f e; same = ap (λ (x : Cursor). x.profile) g }
+none_left : (text : List ℕ) (c : Cursor) → left_of text c ≡ [] → Left text c None
+none_left text c e = record { one = e; same = tt }
 
 module _ (text : List ℕ) (c : Cursor) where
-  pub left-none : (r : Next) → c.left ≡ 0 → r.some ≡ false → r.next ≡ c → Left text c r
+  pub left-none : c.left ≡ 0 → Left text c None
   unfolding rules_from
-  left-none r e f g = none_left text c r (rw e) f g
+  left-none e = none_left text c (rw e)
 
   abbrev here : Reading Step
   here = rule_at (λ _. 0) text c.at.0
@@ -45,30 +38,22 @@ module _ (text : List ℕ) (c : Cursor) where
   unfolding rules_from
   left_by k e = rw e
 
-  module _ (some : c.left ≡ 0 → ⊥) (x : told.Step) (e : seen_step text x ≡ here) where
+  module _ (some : c.left ≡ 0 → ⊥) where
     -- where no rule stands
-    pub left_end : OneOf (1 ∷ 2 ∷ []) (tag_of the_type x) → (r : Next) → r.some ≡ false → r.next ≡ c → Left text c r
-    unfolding seen_step
-    left_end not r f g =
+    pub left_end : {x : Reading Step} → x ≡ here → ((f : RuleRead → List Rule) → rule_then f x ≡ []) → Left text c None
+    left_end e not =
         let k : c.left ≡ suc (c.left - 1) = omega arith in
-        none_left text c r (left_by (c.left - 1) k ∙ ap (λ (y : Reading Step). map (entry c.profile) (rule_then (λ q. rules_from (c.left - 1) (λ _. 0) text q.next) y)) (sym e) ∙ go x not) f g
-      where
-        go : (y : told.Step) → OneOf (1 ∷ 2 ∷ []) (tag_of the_type y) → map (entry c.profile) (rule_then (λ q. rules_from (c.left - 1) (λ _. 0) text q.next) (seen_step text y)) ≡ []
-        go (step.Rule q n) h = absurd (⊎_elim (λ i. omega arith) (λ i. omega arith) h)
-        go (step.Close n) h = refl
-        go (step.Refused stop) h = refl
+        none_left text c (left_by (c.left - 1) k ∙ ap (λ (y : Reading Step). map (entry c.profile) (rule_then (λ q. rules_from (c.left - 1) (λ _. 0) text q.next) y)) (sym e) ∙ ap (map (entry c.profile)) (not (λ q. rules_from (c.left - 1) (λ _. 0) text q.next)))
 
     -- a rule more
-    pub left_one : (q : code.Rule.Rule) (n : Place) → x ≡ step.Rule q n → profile_in c.profile x ≡ c.profile → (t : Record) → entry_of text t ≡ entry q.profile (rule_of text q) →
-        Left text c (record { some = true; «record» = t; next = record { profile = c.profile; left = c.left - 1; at = n } })
-    unfolding seen_step
-    left_one q n f g t h =
+    pub left_one : (q : code.Rule.Rule) (n : Place) → Read (More (record { rule = rule_of text q; next = n.0 })) ≡ here → q.profile ≡ c.profile → (t : Record) → entry_of text t ≡ entry q.profile (rule_of text q) →
+        Left text c (Some (record { «record» = t; next = record { profile = c.profile; left = c.left - 1; at = n } }))
+    left_one q n e p t h =
         let k : c.left ≡ suc (c.left - 1) = omega arith in
-        let p : q.profile ≡ c.profile = rw f at g in
         record {
           one =
               left_by (c.left - 1) k
-              ∙ ap (λ (y : Reading Step). map (entry c.profile) (rule_then (λ r. rules_from (c.left - 1) (λ _. 0) text r.next) y)) (sym e ∙ ap (seen_step text) f)
+              ∙ ap (λ (y : Reading Step). map (entry c.profile) (rule_then (λ r. rules_from (c.left - 1) (λ _. 0) text r.next) y)) (sym e)
               ∙ ap (λ (y : Entry). y ∷ map (entry c.profile) (rules_from (c.left - 1) (λ _. 0) text n.0)) (sym (h ∙ ap (λ (i : ℕ). entry i (rule_of text q)) p));
           same = refl;
         }
@@ -111,20 +96,16 @@ module _ (text head : List ℕ) where
           ∙ ap₂ ◌++◌ (kept i) (ap (λ (m : ℕ). entries_from (i + 1) (profiles_again text (drop 1120 head) m (i + 1))) f)
           ∙ rw e
 
-  module _ (c : Cursor) (h : c.profile < count) (r : Next) (l : Left text c r) where
+  module _ (c : Cursor) (h : c.profile < count) where
     -- a profile without rules is passed over
-    pub rest-pass : r.some ≡ false → rest_from text head (cursor_at head (c.profile + 1)) ≡ rest_from text head c
-    rest-pass f =
+    pub rest-pass : (r : Option Next) → Left text c r → r ≡ None → rest_from text head (cursor_at head (c.profile + 1)) ≡ rest_from text head c
+    rest-pass r l f =
         let e : left_of text c ≡ [] = l.one ∙ rw f in
         rest_at (c.profile + 1) ∙ sym (rest_in c h ∙ rw e)
 
     -- a rule more
-    pub rest-one : r.some ≡ true → rest_from text head c ≡ one_of text (rest_from text head) r
-    rest-one f =
-        let e : left_of text c ≡ entry_of text r.record ∷ left_of text r.next = l.one ∙ rw f in
+    pub rest-one : (r : Next) → Left text c (Some r) → rest_from text head c ≡ one_of text (rest_from text head) (Some r)
+    rest-one r l =
         let k : r.next.profile < count = rw l.same h in
         let n : rest_from text head r.next ≡ left_of text r.next ++ behind (c.profile + 1) = rest_in r.next k ∙ rw l.same in
-        rest_in c h ∙ ap (λ (x : List Entry). x ++ behind (c.profile + 1)) e ∙ rw f (ap (λ (x : List Entry). entry_of text r.record ∷ x) (sym n))
-
-  pub rest-none : (c : Cursor) → count ≤ c.profile → (r : Next) → r.some ≡ false → rest_from text head c ≡ one_of text (rest_from text head) r
-  rest-none c h r f = rest_out c h ∙ rw f
+        rest_in c h ∙ ap (λ (x : List Entry). x ++ behind (c.profile + 1)) l.one ∙ ap (λ (x : List Entry). entry_of text r.record ∷ x) (sym n)

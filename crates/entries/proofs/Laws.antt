@@ -1,8 +1,9 @@
 -- What a head holds after judging, and what it tells.
+use Rattle.std.proofs.Common.{Ok, Err}
 use Prim.Native.Nat.{ℕ, zero, suc, ◌+◌, ◌*◌, ◌-◌, ◌≤◌, ◌<◌, min}
 use mathlib.Core.Path.{◌≡◌, refl, sym, ap, ap₂, ◌∙◌}
 use mathlib.Core.List.{List, [], ◌∷◌, ◌++◌, map, append_assoc}
-use mathlib.Core.Bool.{true, false, ◌||◌}
+use mathlib.Core.Bool.{true, false}
 use lib.ListN.{length, get_or, drop, length-append, length-map, get_or-append}
 use lib.Seq.{paste, take-length, take-append_seam, drop-append-add, drop-drop, drop-append-le, drop_at, get_or-append-add}
 use native.Mathlib.Nat.{min-eq_right, min-le_left, min-le_right}
@@ -16,11 +17,14 @@ use Rattle.pattern.specs.Table.{bytes_at, env, values_from, variables}
 use Rattle.preamble.proofs.Laws.{length-variables}
 use Rattle.profile.specs.Profiles.{File, Profile, file_within, rule_count, rules_in}
 use Rattle.profile.specs.Places.{FileKept, Judged as ReadJudged, Accepted as Taken, Rejected as NotTaken, judged_of, profiles_again, profiles_by, profiles_from, seen_file}
+use Rattle.std.proofs.Common.{Result, Ok, Err}
+use Rattle.text.specs.declared.Refusal.{Refusal}
 use Rattle.profile.specs.declared.FileRead.{FileRead}
 use Rattle.entries.specs.Entries.{Policy, Told, Rejected, Accepted, entry, entries_from, names_from, numbers_of, policy_of, read_of, told_of}
 use Rattle.entries.specs.Filled.{told_by}
-use Rattle.entries.specs.Ahead.{Judged, cursor_at, policy_ahead, rest_from}
-use Rattle.entries.specs.declared.Reading as code
+use Rattle.entries.specs.Ahead.{Judged, cursor_at, policy_ahead, refused_reading, rest_from}
+use Rattle.entries.specs.declared.Unread.{Unread}
+use Rattle.entries.specs.declared.Unread.TheVariants as unread
 use Rattle.entries.proofs.Cursors.{rest_at}
 
 -- ---- three copies, one behind the other, from the start of a head
@@ -172,36 +176,36 @@ unfolding judged_of rule_count
 count-judged s (Read f) = refl
 count-judged s (Refused n p) = refl
 
-module _ (text head : List ℕ) (rooms : ℕ) (r : code.Reading) where
+module _ (text head : List ℕ) (rooms : ℕ) where
   -- nothing is written
-  nothing : told_by r (policy_ahead text head) ≡ read_of (length head) rooms text → (r.short || r.refused) ≡ true → r.count ≡ 0 → Judged text head rooms r head
-  nothing t b c = record { told = t; counted = rw b; count = rw b c; fits = omega arith; stays = refl }
+  nothing : (e : Unread) → told_by (Err e) (policy_ahead text head) ≡ read_of (length head) rooms text → Judged text head rooms (Err e) head
+  nothing e t = record { told = t; counted = refl; count = refl; fits = omega arith; stays = refl }
 
-  pub judged-short : length head < 1256 → r.short ≡ true → r.count ≡ 0 → Judged text head rooms r head
+  pub judged-short : length head < 1256 → Judged text head rooms (Err unread.Short) head
   unfolding told_by read_of
-  judged-short h a c = nothing (rw (a, lt-ltb (length head) 1256 h)) (rw a) c
+  judged-short h = nothing unread.Short (rw (lt-ltb (length head) 1256 h))
 
-  module _ (big : 1256 ≤ length head) (whole : r.short ≡ false) where
-    pub judged-long : 65535 < length text → r.refused ≡ true → r.refusal ≡ nowhere 1 → r.count ≡ 0 → Judged text head rooms r head
+  module _ (big : 1256 ≤ length head) where
+    pub judged-long : 65535 < length text → Judged text head rooms (refused_reading (nowhere 1)) head
     unfolding told_by read_of
-    judged-long h b x c = nothing (rw (whole, b, x, le-ltb (length head) 1256 big, lt-ltb 65535 (length text) h)) (rw (whole, b)) c
+    judged-long h = nothing (unread.Refused (nowhere 1)) (rw (le-ltb (length head) 1256 big, lt-ltb 65535 (length text) h))
 
-    module _ (short : length text ≤ 65535) (v : List ℕ) (f : FileRead) (g : seen_file text v f ≡ judged_of text (file_within (min 512 rooms) text)) where
+    module _ (short : length text ≤ 65535) (v : List ℕ) (x : Result FileRead Refusal) (g : seen_file text v x ≡ judged_of text (file_within (min 512 rooms) text)) where
       abbrev file : Reading File
       file = file_within (min 512 rooms) text
 
-      read : read_of (length head) rooms text ≡ told_judged (seen_file text v f)
+      read : read_of (length head) rooms text ≡ told_judged (seen_file text v x)
       unfolding read_of
       read = rw (le-ltb (length head) 1256 big, le-ltb 65535 (length text) short) (told-judged text file ∙ ap told_judged (sym g))
 
-      pub judged-refused : f.refused ≡ true → r.refused ≡ true → r.refusal ≡ f.refusal → r.count ≡ 0 → Judged text head rooms r head
+      pub judged-refused : (y : Refusal) → x ≡ Err y → Judged text head rooms (refused_reading y) head
       unfolding told_by seen_file
-      judged-refused h b x c = nothing (sym (read ∙ rw (h, whole, b, x))) (rw (whole, b)) c
+      judged-refused y h = nothing (unread.Refused y) (sym (read ∙ rw h))
 
-      pub judged-accepted : f.refused ≡ false → FileKept text v (min 512 rooms) f → length v ≡ 1120 → length f.profiles ≡ 128 → (head' : List ℕ) →
-          head' ≡ v ++ f.profiles ++ (f.vars ∷ f.count ∷ f.rules ∷ []) ++ drop 1251 head → r.refused ≡ false → r.count ≡ f.rules → Judged text head rooms r head'
+      pub judged-accepted : (f : FileRead) → x ≡ Ok f → FileKept text v (min 512 rooms) f → length v ≡ 1120 → length f.profiles ≡ 128 → (head' : List ℕ) →
+          head' ≡ v ++ f.profiles ++ (f.vars ∷ f.count ∷ f.rules ∷ []) ++ drop 1251 head → Judged text head rooms (Ok f.rules) head'
       unfolding told_by seen_file
-      judged-accepted h k i j head' w b c =
+      judged-accepted f h k i j head' w =
           let counts : List ℕ = f.vars ∷ f.count ∷ f.rules ∷ [] in
           let e : head' ≡ v ++ f.profiles ++ f.vars ∷ f.count ∷ f.rules ∷ drop 1251 head = w ∙ append_assoc (v ++ f.profiles) counts (drop 1251 head) in
           let size : length (v ++ f.profiles ++ counts) ≡ 1251 = omega (arith, i, j, length-append v f.profiles, length-append (v ++ f.profiles) counts) in
@@ -209,15 +213,15 @@ module _ (text head : List ℕ) (rooms : ℕ) (r : code.Reading) where
           let ps : List Profile = profiles_from vs text f.profiles f.count 0 in
           let p : policy_ahead text head' ≡ policy_by vs ps =
           policy-told text head' v f.profiles (drop 1251 head) f.vars f.count f.rules i j k.few e ∙ ap (policy_by vs) k.again in
-          let seen : seen_file text v f ≡ Taken vs ps = rw h in
+          let seen : seen_file text v x ≡ Taken vs ps = rw h in
           let all : f.rules ≡ rules_in ps = k.rules ∙ count-judged text file ∙ ap count_judged (sym g ∙ seen) in
           let at = counts-at text head' v f.profiles (drop 1251 head) f.vars f.count f.rules i j k.few e in
           let set : length vs ≡ f.vars = length-variables text v (min 32 f.vars) ∙ min-eq_right k.set in
           let n : length (map named ps) ≡ f.count = length-map ps named ∙ profiles-length (pattern_fault vs) text f.profiles f.count 0 in
           record {
-            told = rw (whole, b) (ap Accepted p ∙ sym (read ∙ ap told_judged seen));
-            counted = rw (whole, b) (three (at.0 ∙ sym set) (at.1.0 ∙ sym n) (at.1.1 ∙ all ∙ sym (entries-length 0 ps)) ∙ ap numbers_of (sym p));
-            count = rw (whole, b) (c ∙ sym at.1.1);
-            fits = omega (arith, c, k.fits, min-le_right 512 rooms);
-            stays = rw (whole, b) (ap (drop 1251) w ∙ drop_at (v ++ f.profiles ++ counts) (drop 1251 head) 1251 size);
+            told = ap Accepted p ∙ sym (read ∙ ap told_judged seen);
+            counted = three (at.0 ∙ sym set) (at.1.0 ∙ sym n) (at.1.1 ∙ all ∙ sym (entries-length 0 ps)) ∙ ap numbers_of (sym p);
+            count = sym at.1.1;
+            fits = omega (arith, k.fits, min-le_right 512 rooms);
+            stays = ap (drop 1251) w ∙ drop_at (v ++ f.profiles ++ counts) (drop 1251 head) 1251 size;
           }

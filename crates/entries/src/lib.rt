@@ -1,19 +1,17 @@
 // What reading keeps of a text: a head of numbers, and a record of each rule.
 #![tactic(auto)]
 
-ghost use Rattle.std.specs.Prelude.{◌≡◌, false, ◌+◌, ◌≤◌, length};
+ghost use Rattle.std.specs.Prelude.{◌≡◌, ◌+◌, ◌≤◌, length};
 ghost use Rattle.std.proofs.Math.Seq.{paste};
 ghost use Rattle.rule.specs.Places.{rule_of};
 ghost use Rattle.entries.specs.Entries.{entry, entry_of};
-ghost use Rattle.entries.specs.Ahead.{Judged, Laid, Left, cursor_at, one_of, refused_reading, rest_from};
+ghost use Rattle.entries.specs.Ahead.{Judged, Laid, Left, cursor_at, one_of, rest_from};
 
-use modes::Transition;
-use perms::Perms;
 use profile::read;
 use rule::Rule;
 use scan::least;
 use statement::{Step, rule_again};
-use text::{Place, Refusal, Span, nowhere};
+use text::{Place, Refusal, nowhere};
 use variables::cell;
 use words::{Front, front_of};
 
@@ -39,13 +37,11 @@ pub struct Record {
     pub front: Front,
 }
 
-// Whether the head is too short, or the text refused; how many records are filled.
+// Why nothing is read: the head is too short, or the text is refused.
 #[derive(Clone, Copy)]
-pub struct Reading {
-    pub short: bool,
-    pub refused: bool,
-    pub refusal: Refusal,
-    pub count: usize,
+pub enum Unread {
+    Short,
+    Refused(Refusal),
 }
 
 // ---- judging a text
@@ -55,11 +51,7 @@ fn copy(head: &mut [usize], at: usize, numbers: &[usize])
     requires { at + length numbers.now ≤ length head.old }
     ensures { head.new ≡ paste head.old at numbers.now (length numbers.now) }
 {
-    let mut i = 0;
-    while i < numbers.len() {
-        head[at + i] = numbers[i];
-        i += 1;
-    }
+    head[at..at + numbers.len()].copy_from_slice(numbers);
 }
 
 // Writes what was read into a head.
@@ -72,49 +64,25 @@ fn keep(head: &mut [usize], vars: &[usize; 1120], profiles: &[usize; 128], count
     copy(head, VARIABLE_COUNT, counts);
 }
 
-// What is told of a text that is refused.
-fn refused(refusal: Refusal) -> Reading
-    ensures { result ≡ refused_reading refusal }
-{
-    Reading {
-        short: false,
-        refused: true,
-        refusal,
-        count: 0,
-    }
-}
-
-// Judges a text. Where it is accepted, with as many rules as have room at most, the head tells its variables and profiles, and how
-// many rules it has; else the head stays as it was.
-pub fn judge(text: &[u8], head: &mut [usize], rooms: usize) -> Reading
+// Judges a text, and answers how many rules it has. Where it is accepted, with as many rules as have room at most, the head tells its
+// variables, its profiles and that number; else the head stays as it was.
+pub fn judge(text: &[u8], head: &mut [usize], rooms: usize) -> Result<usize, Unread>
     ensures { Judged text.now head.old rooms result head.new }
 {
-    let none = nowhere(0);
     if head.len() < HEAD {
-        return Reading {
-            short: true,
-            refused: false,
-            refusal: none,
-            count: 0,
-        };
+        return Err(Unread::Short);
     }
     if 65535 < text.len() {
-        return refused(nowhere(LONG_TEXT));
+        return Err(Unread::Refused(nowhere(LONG_TEXT)));
     }
     let mut vars = [0usize; 1120];
-    let f = read(text, &mut vars, rooms);
-    let refusal = f.refusal;
-    if f.refused {
-        return refused(refusal);
-    }
+    let f = match read(text, &mut vars, rooms) {
+        Ok(f) => f,
+        Err(refusal) => return Err(Unread::Refused(refusal)),
+    };
     let counts = [f.vars, f.count, f.rules];
     keep(head, &vars, &f.profiles, &counts);
-    Reading {
-        short: false,
-        refused: false,
-        refusal: none,
-        count: f.rules,
-    }
+    Ok(f.rules)
 }
 
 // ---- the rules of an accepted text, one by one
@@ -127,10 +95,9 @@ pub struct Cursor {
     pub at: Place,
 }
 
-// Whether there is one more rule, its record, and where reading goes on.
+// The record of a rule, and where reading goes on.
 #[derive(Clone, Copy)]
 pub struct Next {
-    pub some: bool,
     pub record: Record,
     pub next: Cursor,
 }
@@ -155,37 +122,6 @@ pub fn start(head: &[usize]) -> Cursor
     cursor_at(head, 0)
 }
 
-// No rule more.
-fn nothing(at: Cursor) -> Next
-    ensures { (result.some ≡ false) × (result.next ≡ at) }
-{
-    let none = Span {
-        from: Place(0),
-        end: Place(0),
-    };
-    let rule = Rule {
-        profile: 0,
-        audit: false,
-        deny: false,
-        owner: false,
-        perms: Perms(0),
-        transition: Transition::Absent,
-        pattern: none,
-        target: none,
-    };
-    let front = Front {
-        first: 0,
-        second: 0,
-        first_mask: 0,
-        second_mask: 0,
-    };
-    Next {
-        some: false,
-        record: Record { rule, front },
-        next: at,
-    }
-}
-
 // A rule with the words of its pattern's front.
 fn record_of(text: &[u8], rule: Rule) -> Record
     ensures { entry_of text.now result ≡ entry rule.profile (rule_of text.now rule) }
@@ -196,42 +132,42 @@ fn record_of(text: &[u8], rule: Rule) -> Record
 }
 
 // The next rule of a cursor's profile.
-fn next_here(text: &[u8], at: Cursor) -> Next
+fn next_here(text: &[u8], at: Cursor) -> Option<Next>
     ensures { Left text.now at result }
 {
     if at.left == 0 {
-        return nothing(at);
+        return None;
     }
     let profile = at.profile;
     let left = at.left - 1;
     let place = at.at;
-    let Step::Rule { rule, next } = rule_again(text, profile, place) else {
-        return nothing(at);
-    };
-    let record = record_of(text, rule);
-    Next {
-        some: true,
-        record,
-        next: Cursor {
-            profile,
-            left,
-            at: next,
+    match rule_again(text, profile, place) {
+        Ok(step) => match step {
+            Step::Rule { rule, next } => Some(Next {
+                record: record_of(text, rule),
+                next: Cursor {
+                    profile,
+                    left,
+                    at: next,
+                },
+            }),
+            Step::Close { .. } => None,
         },
+        Err(_) => None,
     }
 }
 
 // The next rule of a text whose head this is, and where reading goes on. Profiles without rules are passed over.
-pub fn next_record(text: &[u8], head: &[usize], at: Cursor) -> Next
+pub fn next_record(text: &[u8], head: &[usize], at: Cursor) -> Option<Next>
     ensures { rest_from text.now head.now at ≡ one_of text.now (rest_from text.now head.now) result }
 {
     let n = least(32, cell(head, PROFILE_COUNT));
     let mut cursor = at;
-    while cursor.profile < n {
-        let r = next_here(text, cursor);
-        if r.some {
-            return r;
+    for i in at.profile..n {
+        if let Some(next) = next_here(text, cursor) {
+            return Some(next);
         }
-        cursor = cursor_at(head, cursor.profile + 1);
+        cursor = cursor_at(head, i + 1);
     }
-    nothing(cursor)
+    None
 }

@@ -1,11 +1,11 @@
 -- An expansion written piece by piece, and one chosen by its number.
-use Rattle.std.specs.Prelude.{if◌then◌else◌}
+use Rattle.std.specs.Prelude.{None, Some, if◌then◌else◌}
 use Prim.Native.Nat.{ℕ, zero, suc, ◌+◌, ◌*◌, ◌-◌, ◌≤◌, ◌<◌, min}
 use Prim.Native.Char.{code}
 use mathlib.Core.Path.{◌≡◌, refl, sym, ap, ap₂, ◌∙◌}
 use mathlib.Core.List.{List, [], ◌∷◌, ◌++◌, map, append_assoc, append-nil, map-append}
 use mathlib.Core.Bool.{Bool, true, false, ◌&&◌}
-use lib.ListN.{length, get_or, take, drop, length-append, length-map, length-take, set, length-set}
+use lib.ListN.{length, get_or, take, drop, drop_of_length-le, length-append, length-map, length-take, set, length-set}
 use lib.Seq.{take-suc-set, take_all, take_at, drop-cons, drop-drop}
 use lib.Dec.{eqb}
 use borrow.Author.Tests.{le-leb, lt-leb, lt-ltb, le-ltb}
@@ -123,9 +123,6 @@ module _ {text out : List ℕ} {m : ℕ} {ends : List Piece} where
 
 -- ---- literals in runs
 
-span-cons : (s : List ℕ) (i to : ℕ) → i < to → to ≤ length s → span s i to ≡ get_or s i 0 ∷ span s (i + 1) to
-span-cons s i to h k = let z : to - i ≡ suc (to - suc i) = omega arith in rw (z, add-one, drop-cons s i 0 (omega arith))
-
 module _ {text out : List ℕ} {m : ℕ} {ends : List Piece} where
   -- what comes next is written
   pub writing_more : {end next : List ℕ} {r w : ℕ} {rest left : List Piece} (xs : List Piece) → Writing text out m end r rest ends → rest ≡ xs ++ left →
@@ -137,18 +134,19 @@ module _ {text out : List ℕ} {m : ℕ} {ends : List Piece} where
         whole = append_assoc p.done xs left ∙ ap (λ (l : List Piece). p.done ++ l) (sym e) ∙ p.whole;
       }
 
-  pub writing-byte : (s : List ℕ) (i to : ℕ) → i < to → to ≤ length s → get_or s i 0 < 256 → {end next : List ℕ} {r w : ℕ} →
-      Writing text out m end r (map Byte (span s i to)) ends → Wrote text end r next w (decode text (get_or s i 0) ∷ []) → Writing text out m next w (map Byte (span s (i + 1) to)) ends
-  writing-byte s i to h k b p w =
-      writing_more (Byte (get_or s i 0) ∷ []) p (ap (map Byte) (span-cons s i to h k)) (rw decode-byte at w)
+  pub writing-byte : (s : List ℕ) (i : ℕ) → i < length s → get_or s i 0 < 256 → {end next : List ℕ} {r w : ℕ} →
+      Writing text out m end r (map Byte (drop i s)) ends → Wrote text end r next w (decode text (get_or s i 0) ∷ []) → Writing text out m next w (map Byte (drop (i + 1) s)) ends
+  writing-byte s i h b p w =
+      let e : map Byte (drop i s) ≡ Byte (get_or s i 0) ∷ map Byte (drop (i + 1) s) = rw (add-one, drop-cons s i 0) in
+      writing_more (Byte (get_or s i 0) ∷ []) p e (rw decode-byte at w)
 
   pub writing-done : {end : List ℕ} {r : ℕ} {rest : List Piece} → Writing text out m end r rest ends → rest ≡ [] → Wrote text out m end r ends
   writing-done p e =
       let q : p.done ≡ ends = sym (append-nil p.done) ∙ ap (λ (l : List Piece). p.done ++ l) (sym e) ∙ p.whole in
       rw (← q) p.wrote
 
-pub run-done : (s : List ℕ) (i to : ℕ) → to ≤ i → map Byte (span s i to) ≡ []
-run-done s i to h = let z : to - i ≡ 0 = omega arith in rw z
+pub run-done : (s : List ℕ) (i : ℕ) → length s ≤ i → map Byte (drop i s) ≡ []
+run-done s i h = rw (drop_of_length-le s h)
 
 -- the numbers of what stands behind literals are those of all
 module _ (f : List ℕ → Numbered) (d : ℕ) where
@@ -219,7 +217,7 @@ module _ (text : List ℕ) (slash : Bool) (path : List ℕ) where
 
   -- given up
   pub drafted-gone : {out end : List ℕ} {r : ℕ} {rest xs : List Piece} {h : Held} → length text ≤ 65535 → Writing text out 0 end r rest xs → h ≡ held_to end r →
-      h.gone ≡ true → Drafted text out end slash path (record { count = 0; gone = true }) (if text_fits text then xs else [])
+      h.gone ≡ true → Drafted text out end slash path None (if text_fits text then xs else [])
   drafted-gone {out} {end} {r} {rest} {xs} {h} short p e g =
       let q : map (decode text) (take r end) ≡ take (length out) p.done = p.wrote.all in
       let k : held_pieces path (held_none slash) (take (length out) p.done) ≡ h = ap (held_pieces path (held_none slash)) (sym q) ∙ sym e in
@@ -228,26 +226,26 @@ module _ (text : List ℕ) (slash : Bool) (path : List ℕ) where
       (held-gone path h (take (length out - length p.done) rest) g) in
       rw (le-leb (length text) 65535 short)
       (record {
-        gone = sym (ap (λ (z : Held). z.gone) w ∙ g);
-        written = record { size = p.wrote.size; fits = omega arith; all = sym (take_all (length out) [] (omega arith)) };
+        gone = ap (λ (z : Held). z.gone) w ∙ g;
+        written = p.wrote.size;
       })
 
   -- written to its end
   pub drafted-all : {out end : List ℕ} {r : ℕ} {xs : List Piece} {h : Held} → length text ≤ 65535 → Wrote text out 0 end r xs → h ≡ held_to end r →
-      h.gone ≡ false → Drafted text out end slash path (record { count = r; gone = false }) (if text_fits text then xs else [])
+      h.gone ≡ false → Drafted text out end slash path (Some r) (if text_fits text then xs else [])
   drafted-all {xs = xs} short p e g =
       record {
-        gone = rw (le-leb (length text) 65535 short) (sym (sym (ap (λ (z : Held). z.gone) (e ∙ ap (held_pieces path (held_none slash)) p.all)) ∙ g));
+        gone = rw (le-leb (length text) 65535 short) (sym (ap (λ (z : Held). z.gone) (e ∙ ap (held_pieces path (held_none slash)) p.all)) ∙ g);
         written = written_all text short p;
       }
 
   -- none of a text too long
   pub drafted-none : (out : List ℕ) (xs : List Piece) → 65535 < length text →
-      Drafted text out out slash path (record { count = 0; gone = false }) (if text_fits text then xs else [])
+      Drafted text out out slash path (Some 0) (if text_fits text then xs else [])
   unfolding held_pieces
   drafted-none out xs long =
       record {
-        gone = rw (lt-leb (length text) 65535 long) (ap (λ (l : List Piece). differs slash path l) (sym (take_all (length out) [] (omega arith))));
+        gone = rw (lt-leb (length text) 65535 long) (ap (λ (l : List Piece). differs slash path l) (take_all (length out) [] (omega arith)));
         written = written_none text out xs long;
       }
 

@@ -1,9 +1,9 @@
 -- What is written of an expansion to a buffer, and what is asked of who writes it.
-use Rattle.std.specs.Prelude.{ℕ, ◌≤◌, ◌≡◌, List, [], ◌++◌, map, Bool, length, take, leb, if◌then◌else◌}
+use Rattle.std.specs.Prelude.{ℕ, Option, ◌≤◌, ◌≡◌, List, ◌++◌, map, Bool, true, false, length, take, leb}
+use Rattle.std.specs.Option.{MatchOption}
 use Rattle.pattern.specs.Pieces.{Piece}
 use Rattle.pattern.specs.Codes.{decode}
 use Rattle.codes.specs.Held.{differs}
-use Rattle.expand.specs.declared.Draft.{Draft}
 
 -- a text that is refused by no. 1 has more bytes
 abbrev pub text_fits : List ℕ → Bool
@@ -27,6 +27,6 @@ pub record Written (text out end : List ℕ) (r : ℕ) (xs : List Piece) : Type 
   pub all : map (decode text) (take r end) ≡ take (length out) xs
 
 -- an expansion is written, and one of which a literal among the first differs from the path is given up
-pub record Drafted (text out end : List ℕ) (slash : Bool) (path : List ℕ) (r : Draft) (xs : List Piece) : Type 0 where
-  pub gone : r.gone ≡ differs slash path (take (length out) xs)
-  pub written : Written text out end r.count (if r.gone then [] else xs)
+pub record Drafted (text out end : List ℕ) (slash : Bool) (path : List ℕ) (r : Option ℕ) (xs : List Piece) : Type 0 where
+  pub gone : MatchOption r (differs slash path (take (length out) xs) ≡ true) (λ n. differs slash path (take (length out) xs) ≡ false)
+  pub written : MatchOption r (length end ≡ length out) (λ n. Written text out end n xs)

@@ -20,13 +20,6 @@ use pattern::{ItemRead, PartRead};
 use scan::{least, span};
 use variables::{cell, named};
 
-// How many codes were written, and whether the expansion was given up.
-#[derive(Clone, Copy)]
-pub struct Draft {
-    pub count: usize,
-    pub gone: bool,
-}
-
 // A value or alternative, and the number of one of its expansions.
 #[derive(Clone, Copy)]
 pub struct Choice {
@@ -47,16 +40,14 @@ fn push(out: &mut [u32], m: usize, code: u32) -> usize
     m
 }
 
-// The bytes from one place to before another as literals, as far as there is room; the next place.
-fn push_run(out: &mut [u32], m: usize, s: &[u8], from: usize, to: usize) -> usize
-    requires { (m ≤ length out.old) × (to ≤ length s.now) }
-    ensures { (text : List ℕ) → Wrote text out.old m out.new result (map Byte (span s.now from to)) }
+// Bytes as literals, as far as there is room; the next place.
+fn push_run(out: &mut [u32], m: usize, s: &[u8]) -> usize
+    requires { m ≤ length out.old }
+    ensures { (text : List ℕ) → Wrote text out.old m out.new result (map Byte s.now) }
 {
     let mut w = m;
-    let mut i = from;
-    while i < to {
-        w = push(out, w, s[i] as u32);
-        i += 1;
+    for b in s {
+        w = push(out, w, *b as u32);
     }
     w
 }
@@ -91,8 +82,7 @@ fn pick_value(text: &[u8], vars: &[usize], w: usize, sizes: &[usize; 132], d: us
 {
     let m = least(16, cell(vars, 64 + w));
     let mut left = d;
-    let mut k = 0;
-    while k < m {
+    for k in 0..m {
         let j = 96 + 2 * (16 * w + k);
         let start = cell(vars, j);
         let end = cell(vars, j + 1);
@@ -106,7 +96,6 @@ fn pick_value(text: &[u8], vars: &[usize], w: usize, sizes: &[usize; 132], d: us
             };
         }
         left -= c;
-        k += 1;
     }
     Choice {
         start: 0,
@@ -115,7 +104,8 @@ fn pick_value(text: &[u8], vars: &[usize], w: usize, sizes: &[usize; 132], d: us
     }
 }
 
-// The alternative that holds expansion d of those that commas part.
+// The alternative that holds expansion d of those that commas part. Its values are found by a cursor that jumps, those of a variable
+// in a table: what the two loops share is the test of what is left alone.
 fn pick_alternative(
     text: &[u8],
     vars: &[usize],
@@ -213,7 +203,7 @@ fn write_value(
         left = high(left, c);
         let next = part_end(s, at);
         at = literal_end(s, next);
-        w = push_run(out, w, s, next, at);
+        w = push_run(out, w, &s[next..at]);
     }
     w
 }
@@ -247,8 +237,8 @@ fn write_item(
     }
 }
 
-// Expansion d of the pattern from a to before e, as far as there is room, where a / stands before it, or not. It is given up where
-// one of its first literals differs from the path. None of a text too long.
+// Expansion d of the pattern from a to before e, as far as there is room, where a / stands before it, or not: how many codes were
+// written. It is given up, and None, where one of its first literals differs from the path. Of a text too long nothing is written.
 pub fn write_pattern(
     text: &[u8],
     vars: &[usize],
@@ -260,20 +250,17 @@ pub fn write_pattern(
     slash: bool,
     path: &[u8],
     out: &mut [u32],
-) -> Draft
+) -> Option<usize>
     ensures { Drafted text.now out.old out.new slash path.now result
         (if text_fits text.now then (pattern_by text.now vars.now n sizes.now (span text.now a e)).nth d else []) }
 {
     if 65535 < text.len() {
-        return Draft {
-            count: 0,
-            gone: false,
-        };
+        return Some(0);
     }
     let s = span(text, a, e);
     let mut held = Held {
         at: 0,
-        slash: slash,
+        slash,
         wild: false,
         gone: false,
     };
@@ -288,18 +275,12 @@ pub fn write_pattern(
         w = write_item(n, text, vars, sizes, a, e, at, i, low(left, c), out, w);
         let next = item_end(s, at);
         at = literal_end(s, next);
-        w = push_run(out, w, s, next, at);
+        w = push_run(out, w, &s[next..at]);
         held = hold(out, from, w, held, path);
         if held.gone {
-            return Draft {
-                count: 0,
-                gone: true,
-            };
+            return None;
         }
         left = high(left, c);
     }
-    Draft {
-        count: w,
-        gone: false,
-    }
+    Some(w)
 }

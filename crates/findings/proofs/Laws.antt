@@ -1,12 +1,12 @@
 -- One transition more in a set of transitions.
+use Rattle.std.proofs.Common.{Option, None, Some}
 use Rattle.std.specs.Prelude.{if◌then◌else◌}
 use Prim.Native.Nat.{ℕ}
 use mathlib.Core.Path.{◌≡◌, refl, sym, ap, ◌∙◌}
 use mathlib.Core.List.{List, [], ◌∷◌, ◌++◌, append-nil}
 use mathlib.Core.Bool.{Bool, true, false, ◌&&◌, and-true, and_assoc}
 use Rattle.scan.specs.Bytes.{every}
-use Rattle.modes.specs.declared.Transition.{Transition}
-use Rattle.modes.specs.declared.Transition.TheVariants.{Absent, ByMode}
+use Rattle.modes.specs.declared.Mode.{Mode}
 use Rattle.family.specs.Members.{Choice, Single, Several, choice}
 use Rattle.findings.specs.Findings.{Move, move_by, same_move}
 use Rattle.findings.specs.Weighed.{with_move, with_transition}
@@ -25,6 +25,6 @@ choice-snoc (k ∷ ms) m = ap (λ (b : Bool). if b then Single k else Several) (
     go true = refl
     go false = refl
 
-pub choice-by : (ms : List Move) (t : Transition) (target : List ℕ) → choice same_move (ms ++ move_by t target) ≡ with_transition (choice same_move ms) t target
-choice-by ms Absent target = ap (choice same_move) (append-nil ms)
-choice-by ms (ByMode m) target = choice-snoc ms (record { mode = m; target = target })
+pub choice-by : (ms : List Move) (t : Option Mode) (target : List ℕ) → choice same_move (ms ++ move_by t target) ≡ with_transition (choice same_move ms) t target
+choice-by ms None target = ap (choice same_move) (append-nil ms)
+choice-by ms (Some m) target = choice-snoc ms (record { mode = m; target = target })

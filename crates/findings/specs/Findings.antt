@@ -1,13 +1,11 @@
 -- The findings of a rule list on a request, by which rules match.
-use Rattle.std.specs.Prelude.{ℕ, ◌≡◌, List, [], ◌∷◌, ◌++◌, Bool, not, ◌||◌, ◌&&◌}
+use Rattle.std.specs.Prelude.{ℕ, ◌≡◌, List, [], ◌∷◌, ◌++◌, Bool, not, ◌||◌, ◌&&◌, Option, None, Some}
 use Rattle.std.specs.Int.Bits.{bit_or}
 use Rattle.scan.specs.Bytes.{same, some}
 use Rattle.family.specs.Members.{those, all, SameMembers}
 use Rattle.perms.specs.Sets.{has, set_of}
 use Rattle.modes.specs.Modes.{same_mode}
 use Rattle.modes.specs.declared.Mode.{Mode}
-use Rattle.modes.specs.declared.Transition.{Transition}
-use Rattle.modes.specs.declared.Transition.TheVariants.{Absent, ByMode}
 use Rattle.pattern.specs.Expansions.{Variable}
 use Rattle.matcher.specs.Match.{matches_some, matches_exactly}
 use Rattle.rule.specs.Rules.{Rule}
@@ -39,9 +37,9 @@ unfoldable pub bits : (Rule → Bool) → List Rule → ℕ
 bits p rs = set_of 7 (λ k. some (λ (r : Rule). p r && has r.perms.0 k) rs)
 
 -- the transition of a rule, none where it names no mode
-abbrev pub move_by : Transition → List ℕ → List Move
-move_by Absent t = []
-move_by (ByMode m) t = record { mode = m; target = t } ∷ []
+abbrev pub move_by : Option Mode → List ℕ → List Move
+move_by None t = []
+move_by (Some m) t = record { mode = m; target = t } ∷ []
 
 -- the transitions of the rules of which p holds
 unfoldable pub moves : (Rule → Bool) → List Rule → List Move

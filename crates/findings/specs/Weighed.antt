@@ -1,9 +1,8 @@
 -- Findings as they are gathered rule by rule: of a set of transitions only whether it has no member, one or more.
-use Rattle.std.specs.Prelude.{ℕ, ◌≡◌, List, Bool, not, if◌then◌else◌}
+use Rattle.std.specs.Prelude.{ℕ, ◌≡◌, List, Bool, not, if◌then◌else◌, Option, None, Some}
 use Rattle.std.specs.Int.Bits.{bit_or}
 use Rattle.perms.specs.declared.Perms.{Perms}
-use Rattle.modes.specs.declared.Transition.{Transition}
-use Rattle.modes.specs.declared.Transition.TheVariants.{Absent, ByMode}
+use Rattle.modes.specs.declared.Mode.{Mode}
 use Rattle.rule.specs.Rules.{Rule}
 use Rattle.family.specs.Members.{Choice, None, Single, Several, choice}
 use Rattle.text.specs.Places.{span_of}
@@ -42,9 +41,9 @@ with_move None m = Single m
 with_move (Single k) m = if same_move k m then Single k else Several
 with_move Several m = Several
 
-abbrev pub with_transition : Choice Move → Transition → (target : List ℕ) → Choice Move
-with_transition c Absent t = c
-with_transition c (ByMode m) t = with_move c (record { mode = m; target = t })
+abbrev pub with_transition : Choice Move → Option Mode → (target : List ℕ) → Choice Move
+with_transition c None t = c
+with_transition c (Some m) t = with_move c (record { mode = m; target = t })
 
 -- a matching allow rule more, which matches exactly or otherwise
 unfoldable pub allowing : (exact : Bool) → Rule → Weighed → Weighed

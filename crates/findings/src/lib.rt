@@ -7,7 +7,7 @@ ghost use Rattle.text.specs.Places.{span_of};
 ghost use Rattle.findings.specs.Findings.{same_move};
 ghost use Rattle.findings.specs.Weighed.{Carries, allowing, denying, seen_choice, seen_findings, with_move, with_transition};
 
-use modes::{Mode, Transition};
+use modes::Mode;
 use perms::Perms;
 use rule::Rule;
 use text::Span;
@@ -87,15 +87,15 @@ fn with_transition(
     text: &[u8],
     choice: Choice,
     counts: bool,
-    transition: Transition,
+    transition: Option<Mode>,
     target: Span,
 ) -> Choice
     ensures { seen_choice text.now result ≡ (if counts then with_transition (seen_choice text.now choice) transition (span_of text.now target) else seen_choice text.now choice) }
 {
     if counts {
         return match transition {
-            Transition::Absent => choice,
-            Transition::ByMode(mode) => with_move(text, choice, mode, target),
+            None => choice,
+            Some(mode) => with_move(text, choice, mode, target),
         };
     }
     choice

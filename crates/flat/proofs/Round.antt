@@ -1,4 +1,5 @@
 -- A record that is written can be read back, and leaves the others and the head as they were.
+use Rattle.std.proofs.Common.{Option, None, Some}
 use Prim.Native.Nat.{ℕ, zero, suc, ◌+◌, ◌*◌, ◌-◌, ◌%◌, ◌≤◌, ◌<◌}
 use mathlib.Core.Path.{◌≡◌, refl, sym, ap, ap₂, ◌∙◌}
 use mathlib.Core.List.{List, [], ◌∷◌, ◌++◌}
@@ -10,8 +11,7 @@ use Rattle.modes.specs.declared.Kind.{Kind}
 use Rattle.modes.specs.declared.Kind.TheVariants as kind
 use Rattle.modes.specs.declared.Fallback.{Fallback}
 use Rattle.modes.specs.declared.Fallback.TheVariants as fallback
-use Rattle.modes.specs.declared.Transition.{Transition}
-use Rattle.modes.specs.declared.Transition.TheVariants.{Absent, ByMode}
+use Rattle.modes.specs.declared.Mode.{Mode}
 use Rattle.entries.specs.declared.Record.{Record}
 use Rattle.flat.specs.Layout.{bit, encoded, front_at, qualifiers, record_at, records_from, rule_at, transition_in, transition_number}
 
@@ -31,10 +31,10 @@ qualifiers-back true false true = (refl, (refl, refl))
 qualifiers-back true true false = (refl, (refl, refl))
 qualifiers-back true true true = (refl, (refl, refl))
 
-abbrev mode : Kind → Fallback → Bool → Transition
-mode k f s = ByMode (record { kind = k; fallback = f; scrubs = s })
+abbrev mode : Kind → Fallback → Bool → Option Mode
+mode k f s = Some (record { kind = k; fallback = f; scrubs = s })
 
-abbrev Back : Transition → Type 0
+abbrev Back : Option Mode → Type 0
 Back t = transition_in (transition_number t) ≡ t
 
 mode-back : (k : Kind) (f : Fallback) (s : Bool) → Back (mode k f s)
@@ -63,9 +63,9 @@ mode-back kind.Inherit fallback.Inherit true = refl
 mode-back kind.Inherit fallback.Unconfined false = refl
 mode-back kind.Inherit fallback.Unconfined true = refl
 
-pub transition-back : (t : Transition) → Back t
-transition-back Absent = refl
-transition-back (ByMode m) = mode-back m.kind m.fallback m.scrubs
+pub transition-back : (t : Option Mode) → Back t
+transition-back None = refl
+transition-back (Some m) = mode-back m.kind m.fallback m.scrubs
 
 -- ---- what is pasted, and what stands before it
 

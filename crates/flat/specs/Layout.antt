@@ -1,5 +1,5 @@
 -- A table of rule records as plain numbers: a head of 1256 numbers, and twelve numbers for each record.
-use Rattle.std.specs.Prelude.{ℕ, zero, suc, ◌+◌, ◌*◌, ◌-◌, ◌/◌, ◌%◌, List, [], ◌∷◌, Bool, not, length, get_or, eqb, if◌then◌else◌}
+use Rattle.std.specs.Prelude.{ℕ, zero, suc, ◌+◌, ◌*◌, ◌-◌, ◌/◌, ◌%◌, List, [], ◌∷◌, Bool, not, length, get_or, eqb, if◌then◌else◌, Option, None, Some}
 use Rattle.std.specs.Int.Bits.{bit_and}
 use Rattle.perms.specs.Sets.{perms}
 use Rattle.modes.specs.Modes.{kind_number, fallback_number}
@@ -7,8 +7,7 @@ use Rattle.modes.specs.declared.Kind.{Kind}
 use Rattle.modes.specs.declared.Kind.TheVariants as kind
 use Rattle.modes.specs.declared.Fallback.{Fallback}
 use Rattle.modes.specs.declared.Fallback.TheVariants as fallback
-use Rattle.modes.specs.declared.Transition.{Transition}
-use Rattle.modes.specs.declared.Transition.TheVariants.{Absent, ByMode}
+use Rattle.modes.specs.declared.Mode.{Mode}
 use Rattle.text.specs.Places.{place}
 use Rattle.rule.specs.declared.Rule.{Rule}
 use Rattle.words.specs.declared.Front.{Front}
@@ -28,9 +27,9 @@ abbrev pub qualifiers : (audit deny owner : Bool) → ℕ
 qualifiers audit deny owner = number audit + 2 * number deny + 4 * number owner
 
 -- 0 where there is no mode; else 1, and 2 where it scrubs, and 4 times its kind's number, and 16 times its fallback's
-abbrev pub transition_number : Transition → ℕ
-transition_number Absent = 0
-transition_number (ByMode m) = 1 + 2 * number m.scrubs + 4 * kind_number m.kind + 16 * fallback_number m.fallback
+abbrev pub transition_number : Option Mode → ℕ
+transition_number None = 0
+transition_number (Some m) = 1 + 2 * number m.scrubs + 4 * kind_number m.kind + 16 * fallback_number m.fallback
 
 abbrev pub kind_in : ℕ → Kind
 kind_in n = if bit 4 n then (if bit 8 n then kind.Inherit else kind.Profile) else if bit 8 n then kind.Child else kind.Unconfined
@@ -38,8 +37,8 @@ kind_in n = if bit 4 n then (if bit 8 n then kind.Inherit else kind.Profile) els
 abbrev pub fallback_in : ℕ → Fallback
 fallback_in n = if bit 16 n then fallback.Inherit else if bit 32 n then fallback.Unconfined else fallback.Absent
 
-abbrev pub transition_in : ℕ → Transition
-transition_in n = if bit 1 n then ByMode (record { kind = kind_in n; fallback = fallback_in n; scrubs = bit 2 n }) else Absent
+abbrev pub transition_in : ℕ → Option Mode
+transition_in n = if bit 1 n then Some (record { kind = kind_in n; fallback = fallback_in n; scrubs = bit 2 n }) else None
 
 -- ---- a record
 

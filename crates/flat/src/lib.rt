@@ -4,7 +4,6 @@
 
 ghost use Rattle.std.specs.Prelude.{◌≡◌, List, ℕ, ◌+◌, ◌≤◌, ◌<◌, length};
 ghost use Rattle.std.proofs.Math.Seq.{paste};
-ghost use Rattle.modes.specs.Modes.{kind_number, fallback_number};
 ghost use Rattle.answer.specs.Answers.{whole_of};
 ghost use Rattle.entries.specs.Entries.{entry_of, policy_in};
 ghost use Rattle.asking.specs.Asking.{asked_of, match_at};
@@ -14,9 +13,9 @@ ghost use Rattle.flat.specs.Filled.{FilledIn};
 
 use answer::{Answer, Brief, fill};
 use asking::{begin, conclude_brief, match_record, weigh};
-use entries::{HEAD, RULE_COUNT, Reading, Record, judge, next_record, start};
+use entries::{HEAD, RULE_COUNT, Record, Unread, judge, next_record, start};
 use glob::Matched;
-use modes::{Fallback, Kind, Mode, Transition};
+use modes::{Fallback, Kind, Mode};
 use perms::Perms;
 use rule::Rule;
 use scan::least;
@@ -42,42 +41,19 @@ fn number(b: bool) -> usize
     ensures small { result ≤ 1 }
     ensures same { result ≡ number b }
 {
-    if b { 1 } else { 0 }
-}
-
-fn kind_number(kind: Kind) -> usize
-    ensures small { result ≤ 3 }
-    ensures same { result ≡ kind_number kind }
-{
-    match kind {
-        Kind::Unconfined => 0,
-        Kind::Profile => 1,
-        Kind::Child => 2,
-        Kind::Inherit => 3,
-    }
-}
-
-fn fallback_number(fallback: Fallback) -> usize
-    ensures small { result ≤ 2 }
-    ensures same { result ≡ fallback_number fallback }
-{
-    match fallback {
-        Fallback::Absent => 0,
-        Fallback::Inherit => 1,
-        Fallback::Unconfined => 2,
-    }
+    b as usize
 }
 
 // The number of a transition.
-fn transition_number(transition: Transition) -> usize
+fn transition_number(transition: Option<Mode>) -> usize
     ensures { result ≡ transition_number transition }
 {
     match transition {
-        Transition::Absent => 0,
-        Transition::ByMode(m) => {
-            let kind = m.kind;
-            let fallback = m.fallback;
-            1 + 2 * number(m.scrubs) + 4 * kind_number(kind) + 16 * fallback_number(fallback)
+        None => 0,
+        Some(m) => {
+            1 + 2 * number(m.scrubs)
+                + 4 * m.kind.number() as usize
+                + 16 * m.fallback.number() as usize
         }
     }
 }
@@ -85,48 +61,41 @@ fn transition_number(transition: Transition) -> usize
 fn kind_in(n: usize) -> Kind
     ensures { result ≡ kind_in n }
 {
-    if has_bit(n, 4) {
-        if has_bit(n, 8) {
-            Kind::Inherit
-        } else {
-            Kind::Profile
-        }
-    } else if has_bit(n, 8) {
-        Kind::Child
-    } else {
-        Kind::Unconfined
+    match (has_bit(n, 4), has_bit(n, 8)) {
+        (false, false) => Kind::Unconfined,
+        (true, false) => Kind::Profile,
+        (false, true) => Kind::Child,
+        (true, true) => Kind::Inherit,
     }
 }
 
 fn fallback_in(n: usize) -> Fallback
     ensures { result ≡ fallback_in n }
 {
-    if has_bit(n, 16) {
-        Fallback::Inherit
-    } else if has_bit(n, 32) {
-        Fallback::Unconfined
-    } else {
-        Fallback::Absent
+    match (has_bit(n, 16), has_bit(n, 32)) {
+        (true, _) => Fallback::Inherit,
+        (false, true) => Fallback::Unconfined,
+        (false, false) => Fallback::Absent,
     }
 }
 
 // The transition of a number.
-fn transition_in(n: usize) -> Transition
+fn transition_in(n: usize) -> Option<Mode>
     ensures { result ≡ transition_in n }
 {
     if has_bit(n, 1) {
-        let kind = kind_in(n);
-        let fallback = fallback_in(n);
-        return Transition::ByMode(Mode {
-            kind,
-            fallback,
+        return Some(Mode {
+            kind: kind_in(n),
+            fallback: fallback_in(n),
             scrubs: has_bit(n, 2),
         });
     }
-    Transition::Absent
+    None
 }
 
 // ---- a record
+
+// Records stand in memory that callers of C lend as plain numbers (sidluqethe_read), so their places in it are numbers.
 
 // The numbers of a record.
 fn encode(record: Record) -> [usize; WORDS]
@@ -159,12 +128,7 @@ fn store(memory: &mut [usize], at: usize, record: Record)
     ensures pasted { memory.new ≡ paste memory.old at (encoded «record») 12 }
     ensures back { record_at memory.new at ≡ «record» }
 {
-    let words = encode(record);
-    let mut j = 0;
-    while j < WORDS {
-        memory[at + j] = words[j];
-        j += 1;
-    }
+    memory[at..at + WORDS].copy_from_slice(&encode(record));
 }
 
 // The words and masks that stand behind a place.
@@ -236,22 +200,22 @@ fn room_in(size: usize) -> usize
     (size - HEAD) / WORDS
 }
 
-// Fills memory with what the text holds. Memory that is too short for the head, or a text that is refused, leaves it as found.
-pub fn read(text: &[u8], memory: &mut [usize]) -> Reading
+// Fills memory with what the text holds, and answers how many records that are. Memory that is too short for the head, or a text
+// that is refused, leaves it as found.
+pub fn read(text: &[u8], memory: &mut [usize]) -> Result<usize, Unread>
     ensures { FilledIn text.now memory.old result memory.new }
 {
     let rooms = room_in(memory.len());
-    let got = judge(text, memory, rooms);
-    let n = got.count;
+    let n = judge(text, memory, rooms)?;
     let mut at = start(memory);
-    let mut i = 0;
-    while i < n {
-        let one = next_record(text, memory, at);
-        store(memory, HEAD + WORDS * i, one.record);
-        at = one.next;
-        i += 1;
+    for i in 0..n {
+        // there is one: as many are to come as were counted
+        if let Some(one) = next_record(text, memory, at) {
+            store(memory, HEAD + WORDS * i, one.record);
+            at = one.next;
+        }
     }
-    got
+    Ok(n)
 }
 
 // The answer of what memory holds of the text, its target told by its place there.
@@ -279,15 +243,12 @@ pub fn ask_brief(
     let profile = query.profile;
     let n = query.count;
     let mut found = no_findings();
-    let mut k = 0;
-    while k < n {
+    for k in 0..n {
         let at = HEAD + WORDS * k;
         if is_out_at(memory, at, words, profile) {
-            k += 1;
-        } else {
-            found = weigh(text, memory, path, query, load(memory, at), found);
-            k = k + 1;
+            continue;
         }
+        found = weigh(text, memory, path, query, load(memory, at), found);
     }
     conclude_brief(query, found)
 }

@@ -104,12 +104,16 @@ module _ (p : List ℕ → Bool) (text s : List ℕ) (a e i j : ℕ) (q : s ≡ 
   every_more h y =
       ap (every p) (alternatives-more s i j at h) ∙ every-cons p (span s i j) (alternatives (drop (j + 1) s)) (ap p same_span ∙ y)
 
-  pub every-stop : j < length s → p (span text (a + i) (a + j)) ≡ false → every p (alternatives (drop i s)) ≡ false
-  every-stop h y =
-      ap (every p) (alternatives-more s i j at h) ∙ every-not p (span s i j) (alternatives (drop (j + 1) s)) (ap p same_span ∙ y)
-
   pub every-last : length s ≤ j → every p (alternatives (drop i s)) ≡ p (span text (a + i) (a + j))
   every-last h = ap (every p) (alternatives-last s i j at h) ∙ every_one p (span s i j) ∙ ap p same_span
+
+  pub every-stop : p (span text (a + i) (a + j)) ≡ false → every p (alternatives (drop i s)) ≡ false
+  every-stop y = go (ltb j (length s)) refl
+    where
+      go : (x : Bool) → ltb j (length s) ≡ x → every p (alternatives (drop i s)) ≡ false
+      go true k =
+          ap (every p) (alternatives-more s i j at (ltb-true j (length s) k)) ∙ every-not p (span s i j) (alternatives (drop (j + 1) s)) (ap p same_span ∙ y)
+      go false k = every-last (ltb-false j (length s) k) ∙ y
 
 -- two alternatives or more, where there is a comma
 pub parted : (s : List ℕ) (j : ℕ) → j ≡ 0 + before (code ",") 0 (drop 0 s) → ltb j (length s) ≡ leb 2 (length (alternatives s))

@@ -5,6 +5,7 @@ ghost use Rattle.std.specs.Prelude.{◌≡◌, List, ℕ, length, leb};
 ghost use Rattle.scan.specs.Bytes.{every, span};
 ghost use Rattle.pattern.specs.Items.{alternatives, good_part, good_item, value_form, pattern_form, names_part, names_item, value_names, pattern_names};
 ghost use Rattle.pattern.specs.Expansions.{is_set};
+ghost use Rattle.form.specs.Walks.{EveryPart, EveryItem, EveryAlternative};
 ghost use Rattle.pattern.specs.Reads.{seen_part, seen_item};
 ghost use Rattle.pattern.specs.Table.{env};
 
@@ -14,51 +15,74 @@ use pattern::{ItemRead, PartRead};
 use scan::span;
 use variables::named;
 
+// Whether a test holds at each place of s where a part begins that is no literal by itself.
+fn every_part<F: Fn(usize) -> bool>(s: &[u8], good: F) -> bool
+    requires { F.IsAlwaysCallable good }
+    ensures { EveryPart (F.post good) s.now result }
+{
+    let mut i = literal_end(s, 0);
+    while i < s.len() {
+        if !good(i) {
+            return false;
+        }
+        i = literal_end(s, part_end(s, i));
+    }
+    true
+}
+
+// The same of the items.
+fn every_item<F: Fn(usize) -> bool>(s: &[u8], good: F) -> bool
+    requires { F.IsAlwaysCallable good }
+    ensures { EveryItem (F.post good) s.now result }
+{
+    let mut i = literal_end(s, 0);
+    while i < s.len() {
+        if !good(i) {
+            return false;
+        }
+        i = literal_end(s, item_end(s, i));
+    }
+    true
+}
+
+// Whether a test holds of each alternative between a and e, told by the places where it starts and ends.
+fn every_alternative<F: Fn(usize, usize) -> bool>(text: &[u8], a: usize, e: usize, good: F) -> bool
+    requires { F.IsAlwaysCallable good }
+    ensures { EveryAlternative (F.post good) text.now a e result }
+{
+    let s = span(text, a, e);
+    let mut i = 0;
+    loop {
+        let j = seek(s, i, b',');
+        if !good(a + i, a + j) {
+            return false;
+        }
+        if s.len() <= j {
+            return true;
+        }
+        i = j + 1;
+    }
+}
+
 // Whether a part is a piece or the use of a variable.
 fn good_part(p: PartRead) -> bool
     ensures { (text : List ℕ) → result ≡ good_part (seen_part text p) }
 {
-    match p {
-        PartRead::Is(_) => true,
-        PartRead::Use { start: _, end: _ } => true,
-        PartRead::Bad => false,
-    }
+    !matches!(p, PartRead::Bad)
 }
 
 // Whether the bytes from a to e have a value's form.
 pub fn value_form(text: &[u8], a: usize, e: usize) -> bool
     ensures { result ≡ value_form (span text.now a e) }
 {
-    let s = span(text, a, e);
-    let mut i = literal_end(s, 0);
-    while i < s.len() {
-        if good_part(part_at(text, a, e, i)) {
-            i = literal_end(s, part_end(s, i));
-        } else {
-            return false;
-        }
-    }
-    true
+    every_part(span(text, a, e), |i| good_part(part_at(text, a, e, i)))
 }
 
 // Whether each alternative from a to e has a value's form.
 fn alternatives_form(text: &[u8], a: usize, e: usize) -> bool
     ensures { result ≡ every value_form (alternatives (span text.now a e)) }
 {
-    let s = span(text, a, e);
-    let mut i = 0;
-    loop {
-        let j = seek(s, i, b',');
-        let good = value_form(text, a + i, a + j);
-        if s.len() <= j {
-            return good;
-        }
-        if good {
-            i = j + 1;
-        } else {
-            return false;
-        }
-    }
+    every_alternative(text, a, e, |from, to| value_form(text, from, to))
 }
 
 // Whether a comma parts the bytes from a to e.
@@ -84,16 +108,10 @@ fn good_item(text: &[u8], p: ItemRead) -> bool
 pub fn pattern_form(text: &[u8], a: usize, e: usize) -> bool
     ensures { result ≡ pattern_form (span text.now a e) }
 {
-    let s = span(text, a, e);
-    let mut i = literal_end(s, 0);
-    while i < s.len() {
-        if good_item(text, item_at(text, a, e, i)) {
-            i = literal_end(s, item_end(s, i));
-        } else {
-            return false;
-        }
-    }
-    true
+    every_item(
+        span(text, a, e),
+        |i| good_item(text, item_at(text, a, e, i)),
+    )
 }
 
 // Whether the name that a part uses is set.
@@ -111,36 +129,17 @@ fn known_part(text: &[u8], vars: &[usize], n: usize, p: PartRead) -> bool
 pub fn value_names(text: &[u8], vars: &[usize], n: usize, a: usize, e: usize) -> bool
     ensures { result ≡ value_names (is_set (env text.now vars.now n)) (span text.now a e) }
 {
-    let s = span(text, a, e);
-    let mut i = literal_end(s, 0);
-    while i < s.len() {
-        if known_part(text, vars, n, part_at(text, a, e, i)) {
-            i = literal_end(s, part_end(s, i));
-        } else {
-            return false;
-        }
-    }
-    true
+    every_part(
+        span(text, a, e),
+        |i| known_part(text, vars, n, part_at(text, a, e, i)),
+    )
 }
 
 // Whether every name that the alternatives from a to e use is set.
 fn alternatives_names(text: &[u8], vars: &[usize], n: usize, a: usize, e: usize) -> bool
     ensures { result ≡ every (value_names (is_set (env text.now vars.now n))) (alternatives (span text.now a e)) }
 {
-    let s = span(text, a, e);
-    let mut i = 0;
-    loop {
-        let j = seek(s, i, b',');
-        let known = value_names(text, vars, n, a + i, a + j);
-        if s.len() <= j {
-            return known;
-        }
-        if known {
-            i = j + 1;
-        } else {
-            return false;
-        }
-    }
+    every_alternative(text, a, e, |from, to| value_names(text, vars, n, from, to))
 }
 
 // Whether every name that an item uses is set.
@@ -157,14 +156,8 @@ fn known_item(text: &[u8], vars: &[usize], n: usize, p: ItemRead) -> bool
 pub fn pattern_names(text: &[u8], vars: &[usize], n: usize, a: usize, e: usize) -> bool
     ensures { result ≡ pattern_names (is_set (env text.now vars.now n)) (span text.now a e) }
 {
-    let s = span(text, a, e);
-    let mut i = literal_end(s, 0);
-    while i < s.len() {
-        if known_item(text, vars, n, item_at(text, a, e, i)) {
-            i = literal_end(s, item_end(s, i));
-        } else {
-            return false;
-        }
-    }
-    true
+    every_item(
+        span(text, a, e),
+        |i| known_item(text, vars, n, item_at(text, a, e, i)),
+    )
 }

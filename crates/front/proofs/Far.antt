@@ -1,7 +1,9 @@
 -- Bytes that are passed over as the path's keep what a pattern's front does to it.
-use Rattle.std.specs.Prelude.{if◌then◌else◌}
+use Rattle.std.specs.Prelude.{if◌then◌else◌, Option, Some, None, slice_get}
+use Rattle.std.proofs.Common.{Bor}
+use Rattle.std.specs.Option.{option_eq, option_copied}
 use mathlib.Core.Path.{◌≡◌, refl, sym, subst, ◌∙◌}
-use mathlib.Core.Bool.{Bool, true, false, not, ◌&&◌, ◌||◌}
+use mathlib.Core.Bool.{Bool, true, false}
 use mathlib.Core.List.{List, [], ◌∷◌}
 use Prim.Native.Nat.{ℕ, zero, suc, ◌+◌, ◌-◌, ◌≤◌, ◌<◌}
 use Prim.Native.Char.{code}
@@ -9,11 +11,9 @@ use native.Mathlib.Numerals.{add-one}
 use native.Mathlib.Omega.{arith}
 use lib.ListN.{length, take, drop, get_or, length-drop}
 use lib.Dec.{eqb, ltb}
-use borrow.Author.Tests.{eqb-true, not-false, ltb-true, ltb-false}
+use borrow.Author.Tests.{ltb-true, ltb-false}
 use Rattle.scan.specs.Bytes.{span}
-use Rattle.scan.proofs.Bools.{neither_left, neither_right}
 use Rattle.scan.proofs.Laws.{span_rest}
-use Rattle.pattern.specs.Literals.{special}
 use Rattle.front.specs.Front.{plain_after, front_after, slash_after, lead_of, Passed}
 use Rattle.front.specs.declared.Led.{Led}
 use Rattle.front.proofs.Laws.{lead-none, lead-some, lead-len, lead-slash}
@@ -30,6 +30,17 @@ slash-last slash [] k h = absurd (omega arith)
 slash-last slash (b ∷ s) zero h = refl
 slash-last slash (b ∷ s) (suc k) h = slash-last (eqb b (code "/")) s k (omega arith)
 
+pub slash-ends : (s : List ℕ) → option_eq eqb (slice_get s (length s - 1)) (Some (code "/")) ≡ slash_after false s
+unfolding slash_after
+slash-ends [] = refl
+slash-ends (b ∷ []) = refl
+slash-ends (b ∷ c ∷ s) = let n : suc (suc (length s)) - 1 ≡ suc (suc (length s) - 1) = omega arith in rw n (slash-ends (c ∷ s))
+
+-- a byte that is lent is compared by its value
+pub same-got : (r : Option (Bor ℕ)) (b : Bor ℕ) → option_eq (λ x y. eqb x.now y.now) r (Some b) ≡ option_eq eqb (option_copied r) (Some b.now)
+same-got None b = refl
+same-got (Some x) b = refl
+
 -- what holds of each below i, and of each of the n from i on, holds of each below i + n
 pub below-add : (P : ℕ → Type 0) (i n : ℕ) → ((k : ℕ) → k < i → P k) → ((k : ℕ) → k < n → P (i + k)) → (k : ℕ) → k < i + n → P k
 below-add P i n all more k h = go (ltb k i) refl
@@ -41,25 +52,6 @@ below-add P i n all more k h = go (ltb k i) refl
         subst P (omega arith) (more (k - i) (omega arith))
 
 module _ (s path : List ℕ) where
-  abbrev other : ℕ → Bool
-  other j = not (eqb (get_or s j 0) (get_or path j 0))
-
-  abbrev doubled : ℕ → Bool
-  doubled j = eqb (get_or s j 0) (code "/") && eqb (get_or s (j + 1) 0) (code "/")
-
-  -- no difference was told before byte j, and none at it
-  pub none-differs : (j : ℕ) (before here : Bool) → here ≡ special (get_or s j 0) → (((before || other j) || here) || doubled j) ≡ false → (before ≡ false) × Passed s path j
-  none-differs j before here t e =
-      let h = neither_left ((before || other j) || here) (doubled j) e in
-      let o = neither_left (before || other j) here h in (
-        neither_left before (other j) o,
-        record {
-          same = sym (eqb-true (get_or s j 0) (get_or path j 0) (not-false (eqb (get_or s j 0) (get_or path j 0)) (neither_right before (other j) o)));
-          literal = sym t ∙ neither_right (before || other j) here h;
-          single = neither_right ((before || other j) || here) (doubled j) e;
-        },
-      )
-
   -- a byte passed over is plain behind those before it, and k bytes passed over change nothing
   passed-plain : (k : ℕ) → k < length path → ((j : ℕ) → j < suc k → Passed s path j) → plain_after (slash_after false (take k path)) (get_or s k 0) ≡ true
   passed-plain zero h p = rw (slash-none false path, (p 0 (omega arith)).literal)
@@ -88,7 +80,7 @@ front-le slash (b ∷ s) = go (plain_after slash b) (front-le (eqb b (code "/"))
 module _
     (s path : List ℕ) (k : ℕ) (within : (k ≤ length s) × (k ≤ length path)) (passed : (j : ℕ) → j < k → Passed s path j)
     {slash : Bool} (before : slash ≡ slash_after false (take k path)) {left : List ℕ} (rest : left ≡ span path k (length path))
-    {r : Led} (told : r ≡ lead_of slash (span s k (length s)) left)
+    {r : Option Led} (told : r ≡ lead_of slash (span s k (length s)) left)
   where
     of-rest : r ≡ lead_of slash (drop k s) (drop k path)
     of-rest = told ∙ rw (span_rest s k, rest, span_rest path k)
@@ -96,19 +88,24 @@ module _
     whole : lead_from k slash s path ≡ lead_of false s path
     whole = rw before (passed_over s path k within.0 within.1 passed)
 
-    len-rest : r.fits ≡ true → r.len ≡ length (front_after slash (drop k s))
-    len-rest e = lead-len slash (drop k s) (drop k path) r of-rest e
+    -- it begins that
+    module _ {l : Led} (e : r ≡ Some l) where
+      is : lead_of slash (drop k s) (drop k path) ≡ Some l
+      is = sym of-rest ∙ e
 
-    pub far_within : r.fits ≡ true → k + r.len ≤ length s
-    far_within e = omega (arith, len-rest e, front-le slash (drop k s), length-drop k s)
+      len-rest : l.len ≡ length (front_after slash (drop k s))
+      len-rest = lead-len slash (drop k s) (drop k path) is
 
-    pub far-fits : r.fits ≡ true → record { fits = true; len = k + r.len; slash = r.slash } ≡ lead_of false s path
-    far-fits e =
-        let n : k + r.len ≡ length (front_after slash (drop k s)) + k = omega (arith, len-rest e) in
-        let from : record { fits = true; len = k + r.len; slash = r.slash } ≡ lead_from k slash s path =
-        rw (lead-some slash (drop k s) (drop k path) r of-rest e, n, lead-slash slash (drop k s) (drop k path) r of-rest e) in
-        from ∙ whole
+      pub far_within : k + l.len ≤ length s
+      far_within = omega (arith, len-rest, front-le slash (drop k s), length-drop k s)
 
-    pub far-differs : r.fits ≡ false → r ≡ lead_of false s path
-    unfolding lead_of
-    far-differs e = of-rest ∙ (rw (lead-none slash (drop k s) (drop k path) r of-rest e)) ∙ whole
+      pub far-fits : Some (record { len = k + l.len; slash = l.slash }) ≡ lead_of false s path
+      far-fits =
+          let n : k + l.len ≡ length (front_after slash (drop k s)) + k = omega (arith, len-rest) in
+          let from : Some (record { len = k + l.len; slash = l.slash }) ≡ lead_from k slash s path =
+          rw (lead-some slash (drop k s) (drop k path) is, n, lead-slash slash (drop k s) (drop k path) is) in
+          from ∙ whole
+
+    -- it does not
+    pub far-differs : r ≡ None → None ≡ lead_of false s path
+    far-differs e = (rw (lead-none slash (drop k s) (drop k path) (sym of-rest ∙ e))) ∙ whole

@@ -1,10 +1,12 @@
 -- A path is matched where it begins with a pattern's front, and what follows it is matched by what follows the front.
-use Rattle.std.specs.Prelude.{if◌then◌else◌}
+use Rattle.std.specs.Prelude.{if◌then◌else◌, Some, None}
+use Rattle.std.proofs.lemmas.Option.{cond_some}
 use mathlib.Core.Path.{◌≡◌, refl, sym, ap, ap₂, ◌∙◌}
 use mathlib.Core.List.{List, [], ◌∷◌, map}
 use mathlib.Core.Bool.{Bool, true, false, not, ◌&&◌, ◌||◌, and-false}
 use Prim.Native.Nat.{ℕ}
 use Prim.Native.Char.{code}
+use native.Mathlib.Omega.{arith}
 use lib.ListN.{length, drop}
 use lib.Dec.{eqb}
 use borrow.Author.Tests.{eq-eqb, ne_eqb, eqb-true, eqb-false, not-true}
@@ -159,43 +161,45 @@ module _ (slash : Bool) (vs : List Variable) (s path : List ℕ) where
 
 -- ---- what is told of a front
 
-fits-if : (x : Bool) (a b : Led) → a.fits ≡ true → b.fits ≡ false → (if x then a else b).fits ≡ x
-fits-if true a b e f = e
-fits-if false a b e f = f
-
 module _ (slash : Bool) (s path : List ℕ) where
-  pub lead-fits : (lead_of slash s path).fits ≡ beginning (front_after slash s) path
-  unfolding lead_of
-  lead-fits = fits-if (beginning (front_after slash s) path) _ _ refl refl
-
-  -- r was told: the front does not begin the path; or it does, and what is left of both goes on
-  module _ (r : Led) (told : r ≡ lead_of slash s path) where
-    pub lead-none : r.fits ≡ false → beginning (front_after slash s) path ≡ false
-    lead-none e = sym (ap (λ (l : Led). l.fits) told ∙ lead-fits) ∙ e
-
-    pub lead-some : r.fits ≡ true → beginning (front_after slash s) path ≡ true
-    lead-some e = sym (ap (λ (l : Led). l.fits) told ∙ lead-fits) ∙ e
-
-    pub lead-len : r.fits ≡ true → r.len ≡ length (front_after slash s)
+  -- the front does not begin the path
+  module _ (told : lead_of slash s path ≡ None) where
+    pub lead-none : beginning (front_after slash s) path ≡ false
     unfolding lead_of
-    lead-len e = ap (λ (l : Led). l.len) told ∙ rw (lead-some e, lead_of)
-
-    pub lead-slash : r.fits ≡ true → r.slash ≡ slash_after slash (front_after slash s)
-    unfolding lead_of
-    lead-slash e = ap (λ (l : Led). l.slash) told ∙ rw (lead-some e, lead_of)
+    lead-none = go (beginning (front_after slash s) path) _ told
+      where
+        go : (x : Bool) (l : Led) → (if x then Some l else None) ≡ None → x ≡ false
+        go true l e = grind arith
+        go false l e = refl
 
     module _ (vs : List Variable) where
-      pub none_after : r.fits ≡ false → some_after slash vs s path ≡ false
-      none_after e = behind slash vs s path ∙ rw (lead-none e)
+      pub none_after : some_after slash vs s path ≡ false
+      none_after = behind slash vs s path ∙ rw lead-none
 
-      pub none-exactly : r.fits ≡ false → exact_after slash vs s path ≡ false
-      none-exactly e = behind-exactly slash vs s path ∙ rw (lead-none e)
+      pub none-exactly : exact_after slash vs s path ≡ false
+      none-exactly = behind-exactly slash vs s path ∙ rw lead-none
 
-      pub rest-after : r.fits ≡ true → some_after slash vs s path ≡ some_after r.slash vs (drop r.len s) (drop r.len path)
-      rest-after e = behind slash vs s path ∙ rw (lead-some e, lead-len e, lead-slash e)
+  -- it does, and what is left of both goes on
+  module _ {l : Led} (told : lead_of slash s path ≡ Some l) where
+    parts : (beginning (front_after slash s) path ≡ true) × (record { len = length (front_after slash s); slash = slash_after slash (front_after slash s) } ≡ l)
+    unfolding lead_of
+    parts = cond_some _ _ _ told
 
-      pub rest-exactly : r.fits ≡ true → exact_after slash vs s path ≡ exact_after r.slash vs (drop r.len s) (drop r.len path)
-      rest-exactly e = behind-exactly slash vs s path ∙ rw (lead-some e, lead-len e, lead-slash e)
+    pub lead-some : beginning (front_after slash s) path ≡ true
+    lead-some = parts.0
+
+    pub lead-len : l.len ≡ length (front_after slash s)
+    lead-len = sym (ap (λ (l : Led). l.len) parts.1)
+
+    pub lead-slash : l.slash ≡ slash_after slash (front_after slash s)
+    lead-slash = sym (ap (λ (l : Led). l.slash) parts.1)
+
+    module _ (vs : List Variable) where
+      pub rest-after : some_after slash vs s path ≡ some_after l.slash vs (drop l.len s) (drop l.len path)
+      rest-after = behind slash vs s path ∙ rw (lead-some, lead-len, lead-slash)
+
+      pub rest-exactly : exact_after slash vs s path ≡ exact_after l.slash vs (drop l.len s) (drop l.len path)
+      rest-exactly = behind-exactly slash vs s path ∙ rw (lead-some, lead-len, lead-slash)
 
 -- ---- a whole pattern, before which no / stands
 

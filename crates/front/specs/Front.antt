@@ -1,5 +1,5 @@
 -- The front of a pattern: its first bytes that are literals whatever stands behind them.
-use Rattle.std.specs.Prelude.{ℕ, ◌+◌, ◌≡◌, List, [], ◌∷◌, Bool, true, false, not, ◌&&◌, length, get_or, eqb, if◌then◌else◌}
+use Rattle.std.specs.Prelude.{ℕ, ◌+◌, ◌≡◌, List, [], ◌∷◌, Bool, true, false, not, ◌&&◌, length, get_or, eqb, if◌then◌else◌, Option, Some, None}
 use Prim.Native.Char.{code}
 use Rattle.scan.specs.Bytes.{every, some}
 use Rattle.pattern.specs.Expansions.{Variable, expansions, is_literal, joined_after}
@@ -29,14 +29,12 @@ unfoldable pub slash_after : (slash : Bool) → List ℕ → Bool
 slash_after slash [] = slash
 slash_after slash (b ∷ f) = slash_after (eqb b (code "/")) f
 
--- what is told of f and a path: that f begins it, how long f is, and whether a / stands before what follows; else nothing
-abbrev pub led_by : (slash : Bool) → (f path : List ℕ) → Led
-led_by slash f path =
-    if beginning f path then record { fits = true; len = length f; slash = slash_after slash f }
-    else record { fits = false; len = 0; slash = false }
+-- what is told of f and a path: where f begins it, how long f is, and whether a / stands before what follows; else nothing
+abbrev pub led_by : (slash : Bool) → (f path : List ℕ) → Option Led
+led_by slash f path = if beginning f path then Some (record { len = length f; slash = slash_after slash f }) else None
 
 -- the front of a pattern, held to a path
-unfoldable pub lead_of : (slash : Bool) → (pattern path : List ℕ) → Led
+unfoldable pub lead_of : (slash : Bool) → (pattern path : List ℕ) → Option Led
 lead_of slash pattern path = led_by slash (front_after slash pattern) path
 
 -- byte j of a pattern is the path's, a literal by itself, and no / before a /

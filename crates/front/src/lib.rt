@@ -9,10 +9,9 @@ ghost use Rattle.front.specs.Front.{lead_of, plain_after, slash_after, Passed};
 use ends::is_ordinary;
 use scan::{least, span};
 
-// How a path begins: whether with the front of a pattern, how long that is, and whether a / stands before what follows it.
+// How a path begins with the front of a pattern: how long that is, and whether a / stands before what follows it.
 #[derive(Clone, Copy)]
 pub struct Led {
-    pub fits: bool,
     pub len: usize,
     pub slash: bool,
 }
@@ -24,45 +23,29 @@ pub fn plain(b: u8, slash: bool) -> bool
     is_ordinary(b) & !(slash & (b == b'/'))
 }
 
-// What the front of the pattern from a to before e does to a path, where a / stands before both, or not.
-pub fn lead(text: &[u8], a: usize, e: usize, slash: bool, path: &[u8]) -> Led
+// What the front of the pattern from a to before e does to a path, where a / stands before both, or not: none where it does not begin the path.
+pub fn lead(text: &[u8], a: usize, e: usize, slash: bool, path: &[u8]) -> Option<Led>
     ensures { result ≡ lead_of slash (span text.now a e) path.now }
 {
     let pattern = span(text, a, e);
     let mut after = slash;
-    let mut i = 0;
-    while i < pattern.len() {
-        let b = pattern[i];
-        if plain(b, after) {
-            if path.len() <= i {
-                return Led {
-                    fits: false,
-                    len: 0,
-                    slash: false,
-                };
-            }
-            if path[i] != b {
-                return Led {
-                    fits: false,
-                    len: 0,
-                    slash: false,
-                };
-            }
-            after = b == b'/';
-            i += 1;
-        } else {
-            return Led {
-                fits: true,
+    for (i, b) in pattern.iter().enumerate() {
+        if !plain(*b, after) {
+            return Some(Led {
                 len: i,
                 slash: after,
-            };
+            });
         }
+        let next = path.get(i)?;
+        if next != b {
+            return None;
+        }
+        after = *b == b'/';
     }
-    Led {
-        fits: true,
-        len: i,
+    Some(Led {
+        len: pattern.len(),
         slash: after,
-    }
+    })
 }
 
 // Whether b may be more than a literal, or none: with no branch, so that many are told at once.
@@ -81,18 +64,17 @@ fn is_special(b: u8) -> bool
 }
 
 // Whether the 16 bytes of a pattern from a place on are the path's, literals by themselves, and none of them a / before a /.
+// Every one is looked at, so that they are told at once.
 fn agrees(pattern: &[u8], path: &[u8], at: usize) -> bool
     requires at_in_bounds { at + 16 < length pattern.now }
     requires at_in_bounds_2 { at + 16 < length path.now }
     ensures { result ≡ true → (j : ℕ) → j < 16 → Passed pattern.now path.now (at + j) }
 {
     let mut differs = false;
-    let mut i = 0;
-    while i < 16 {
+    for i in 0..16 {
         let b = pattern[at + i];
         let doubled = (b == b'/') & (pattern[at + i + 1] == b'/');
         differs = differs | (b != path[at + i]) | is_special(b) | doubled;
-        i += 1;
     }
     !differs
 }
@@ -102,18 +84,17 @@ fn passed(pattern: &[u8], path: &[u8]) -> usize
     ensures within { (result ≤ length pattern.now) × (result ≤ length path.now) }
     ensures by_index { (j : ℕ) → j < result → Passed pattern.now path.now j }
 {
-    let n = least(pattern.len(), path.len());
-    let mut i = 0;
-    while 16 < n - i {
-        if pattern[i + 15] != path[i + 15] {
-            return i;
+    let blocks = least(pattern.len(), path.len()).saturating_sub(1) / 16;
+    for k in 0..blocks {
+        let at = 16 * k;
+        if pattern[at + 15] != path[at + 15] {
+            return at;
         }
-        if !agrees(pattern, path, i) {
-            return i;
+        if !agrees(pattern, path, at) {
+            return at;
         }
-        i += 16;
     }
-    i
+    16 * blocks
 }
 
 // Whether a / stands before a place of a path; none stands before its first byte.
@@ -121,14 +102,11 @@ fn slash_before(path: &[u8], k: usize) -> bool
     requires { k ≤ length path.now }
     ensures { result ≡ slash_after false (take k path.now) }
 {
-    if k == 0 {
-        return false;
-    }
-    path[k - 1] == b'/'
+    path[..k].last() == Some(&b'/')
 }
 
 // What the front of the pattern from a to before e does to a path, where no / stands before them: as lead, and fast where the front is long.
-pub fn lead_far(text: &[u8], a: usize, e: usize, path: &[u8]) -> Led
+pub fn lead_far(text: &[u8], a: usize, e: usize, path: &[u8]) -> Option<Led>
     ensures { result ≡ lead_of false (span text.now a e) path.now }
 {
     let pattern = span(text, a, e);
@@ -139,13 +117,9 @@ pub fn lead_far(text: &[u8], a: usize, e: usize, path: &[u8]) -> Led
         pattern.len(),
         slash_before(path, k),
         span(path, k, path.len()),
-    );
-    if l.fits {
-        return Led {
-            fits: true,
-            len: k + l.len,
-            slash: l.slash,
-        };
-    }
-    l
+    )?;
+    Some(Led {
+        len: k + l.len,
+        slash: l.slash,
+    })
 }

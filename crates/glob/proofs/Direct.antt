@@ -1,6 +1,6 @@
 -- A pattern that is told of as it is written, behind its front.
-use Rattle.std.specs.Prelude.{if◌then◌else◌}
-use Prim.Native.Nat.{ℕ, ◌+◌, ◌-◌, ◌≤◌, ◌<◌}
+use Rattle.std.specs.Prelude.{if◌then◌else◌, Some}
+use Prim.Native.Nat.{ℕ, ◌≤◌, ◌<◌}
 use Prim.Native.Char.{code}
 use mathlib.Core.Path.{◌≡◌, sym, ap, ◌∙◌}
 use mathlib.Core.List.{List, [], ◌∷◌, ◌++◌, map}
@@ -38,10 +38,10 @@ front-first (b ∷ s) ps h e = go (plain_after false b) h
     go false h = absurd (omega arith)
     go true h = eq-eqb b (code "/") e
 
-module _ (vs : List Variable) (s path : List ℕ) {l : Led} (led : l ≡ lead_of false s path) (fits : l.fits ≡ true) where
+module _ (vs : List Variable) (s path : List ℕ) {l : Led} (led : lead_of false s path ≡ Some l) where
   pub direct-miss : outcome_of l.slash (drop l.len s) (drop l.len path) ≡ outcome.Miss → matches_some vs s path ≡ false
   direct-miss o =
-      some_after_lem vs s path ∙ rest-after false s path l led vs fits ∙ told-miss (drop l.len path) (drop l.len s) l.slash o vs
+      some_after_lem vs s path ∙ rest-after false s path led vs ∙ told-miss (drop l.len path) (drop l.len s) l.slash o vs
 
   -- a hit of a pattern that is short enough and begins with a /
   module _ (o : outcome_of l.slash (drop l.len s) (drop l.len path) ≡ outcome.Hit) where
@@ -51,26 +51,26 @@ module _ (vs : List Variable) (s path : List ℕ) {l : Led} (led : l ≡ lead_of
     pub direct-some : matches_some vs s path ≡ true
     direct-some =
         some_after_lem vs s path
-        ∙ rest-after false s path l led vs fits
+        ∙ rest-after false s path led vs
         ∙ straight-some vs (drop l.len s) hits.pieces hits.are l.slash (drop l.len path)
         ∙ hits.whole
 
     plain-none : plain_first l.slash (drop l.len s) ≡ false
-    plain-none = rw (lead-len false s path l led fits, lead-slash false s path l led fits) (front-stops false s)
+    plain-none = rw (lead-len false s path led, lead-slash false s path led) (front-stops false s)
 
     pub direct-exactly : matches_exactly vs s path ≡ eqb l.len (length s)
     direct-exactly =
         exact-after vs s path
-        ∙ rest-exactly false s path l led vs fits
+        ∙ rest-exactly false s path led vs
         ∙ straight-exactly vs (drop l.len s) hits.pieces hits.are l.slash (drop l.len path)
-        ∙ rw (hits.whole, hits.literal plain-none, ends s l.len (len-pattern s path led fits)) (and-true (eqb l.len (length s)))
+        ∙ rw (hits.whole, hits.literal plain-none, ends s l.len (len-pattern s path led)) (and-true (eqb l.len (length s)))
 
     pub direct_good : 0 < l.len → length s ≤ 1024 → get_or s 0 0 ≡ code "/" → pattern_fault vs s ≡ 0
     direct_good h n e =
-        let k = lead-len false s path l led fits in
+        let k = lead-len false s path led in
         let q = hits.pieces in
         let w : length (map Byte (front s) ++ q) ≤ length s =
-        omega (arith, length-append (map Byte (front s)) q, length-map (front s) Byte, hits.short, length-drop l.len s, len-pattern s path led fits) in
+        omega (arith, length-append (map Byte (front s)) q, length-map (front s) Byte, hits.short, length-drop l.len s, len-pattern s path led) in
         straight-good vs s (map Byte (front s) ++ q) (front_items false s q (ap (λ (n : ℕ). items 0 (drop n s)) (sym k) ∙ hits.are)) (omega arith) n (front-first s q (omega arith) e)
 
 -- what is matched

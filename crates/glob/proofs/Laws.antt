@@ -1,5 +1,5 @@
 -- Every expansion tried by its number; a pattern without fault under a right table of sizes.
-use Rattle.std.specs.Prelude.{if◌then◌else◌}
+use Rattle.std.specs.Prelude.{Option, None, Some, if◌then◌else◌}
 use Prim.Native.Nat.{ℕ, zero, suc, ◌+◌, ◌-◌, ◌≤◌, ◌<◌}
 use Prim.Native.Char.{code}
 use mathlib.Core.Path.{◌≡◌, refl, sym, ap, ap₂, ◌∙◌}
@@ -30,7 +30,6 @@ use Rattle.sizes.proofs.Numbered.{pattern-right}
 use Rattle.faults.specs.Sized.{fault_by}
 use Rattle.faults.proofs.Laws.{faults-known}
 use Rattle.expand.specs.Write.{text_fits, Written, Drafted}
-use Rattle.expand.specs.declared.Draft.{Draft}
 use Rattle.codes.specs.declared.Held.{Held}
 use Rattle.codes.specs.Held.{held_none, held_byte, held_wild, held_piece, held_pieces, differs}
 use Rattle.codes.proofs.Laws.{held_then, held-over, held-gone}
@@ -99,30 +98,30 @@ module _ (path : List ℕ) where
       go false t q here later h = byte-none c ps at false later (ltb at (length path)) (eqb (get_or path at 0) c) refl refl h
 
 -- what was drafted of an expansion to a buffer of at most 1,024 places
-module _ (text path : List ℕ) (slash : Bool) (x : List Piece) {out end : List ℕ} {r : Draft} (fits : (text_fits text && path_fits path) ≡ true)
+module _ (text path : List ℕ) (slash : Bool) (x : List Piece) {out end : List ℕ} {r : Option ℕ} (fits : (text_fits text && path_fits path) ≡ true)
     (d : Drafted text out end slash path r (if text_fits text then x else [])) (room : length out ≤ 1024) where
   -- it was given up
-  pub draft-gone : r.gone ≡ true → no_match ≡ matched_by slash (take 1024 x) path
+  pub draft-gone : r ≡ None → no_match ≡ matched_by slash (take 1024 x) path
   unfolding matched_by
   draft-gone g =
       let k = length out in
-      let q : differs slash path (take k x) ≡ true = rw (and_left (text_fits text) (path_fits path) fits) at (sym d.gone ∙ g) in
+      let q : differs slash path (take k x) ≡ true = rw (and_left (text_fits text) (path_fits path) fits) at (rw g at d.gone) in
       let e : take k x ++ drop k (take 1024 x) ≡ take 1024 x = rw (take-take k 1024 x room) at (take-append-drop k (take 1024 x)) in
       let h : differs slash path (take 1024 x) ≡ true =
       rw (← e) (ap (λ (z : Held). z.gone) (held_then path (held_none slash) (take k x) (drop k (take 1024 x)) ∙ held-gone path (held_pieces path (held_none slash) (take k x)) (drop k (take 1024 x)) q) ∙ q) in
       rw (differs-from path (take 1024 x) 0 slash h, and-false)
 
-  module _ (g : r.gone ≡ false) where
-    written : Written text out end r.count x
-    written = rw (g, and_left (text_fits text) (path_fits path) fits) at d.written
+  module _ {count : ℕ} (g : r ≡ Some count) where
+    written : Written text out end count x
+    written = rw (and_left (text_fits text) (path_fits path) fits) at (rw g at d.written)
 
     -- there was room for all of it
-    pub draft-whole : (length out ≡ 1024) ⊎ (r.count < length out) → map (decode text) (take r.count end) ≡ take 1024 x
+    pub draft-whole : (length out ≡ 1024) ⊎ (count < length out) → map (decode text) (take count end) ≡ take 1024 x
     draft-whole (inl e) = written.all ∙ rw e
     draft-whole (inr h) =
-        let n : length (take r.count end) ≡ length (take (length out) x) = sym (length-map (take r.count end) (decode text)) ∙ ap length written.all in
-        let l : length x ≤ r.count =
-        omega (arith, n, length-take r.count end, length-take (length out) x, written.size, written.fits) in
+        let n : length (take count end) ≡ length (take (length out) x) = sym (length-map (take count end) (decode text)) ∙ ap length written.all in
+        let l : length x ≤ count =
+        omega (arith, n, length-take count end, length-take (length out) x, written.size, written.fits) in
         written.all ∙ take_all (length out) x (omega arith) ∙ sym (take_all 1024 x (omega arith))
 
 -- ---- all expansions, by number
@@ -160,10 +159,12 @@ module _ (slash : Bool) (a : Numbered) (path : List ℕ) where
           exactly = ap₂ (λ (x y : Bool). x || y) p.exactly (sym k ∙ ap (λ (z : Matched). z.exact) e);
         })
 
-    pub tried-found : (k : ℕ) → d < k → m.exact ≡ true → ◌≡◌ {A = Matched} (record { some = true; exact = true }) (matched_below slash a path k)
+    pub tried-found : (k : ℕ) → d < k → m.exact ≡ true → m ≡ matched_below slash a path k
     tried-found k h q =
         let x : (matched_at slash a path d).exact ≡ true = ap (λ (z : Matched). z.exact) (sym e) ∙ q in
-        rw (below_at (λ i. (matched_at slash a path i).exact) k d h x, below_at (λ i. (matched_at slash a path i).some) k d h (exact-hits (take 1024 (a.nth d)) x))
+        let y : m.some ≡ true = ap (λ (z : Matched). z.some) e ∙ exact-hits (take 1024 (a.nth d)) x in
+        let t : m ≡ record { some = true; exact = true } = ap₂ (λ (s x : Bool). record { some = s; exact = x }) y q in
+        t ∙ rw (below_at (λ i. (matched_at slash a path i).exact) k d h x, below_at (λ i. (matched_at slash a path i).some) k d h (exact-hits (take 1024 (a.nth d)) x))
 
   pub tried-all : {d : ℕ} {found : Bool} → Tried slash a path d found → (k : ℕ) → d ≡ k → ◌≡◌ {A = Matched} (record { some = found; exact = false }) (matched_below slash a path k)
   tried-all p k e = rw (← e, p.hits, p.exactly)
@@ -270,12 +271,12 @@ beginning-le (a ∷ f) [] e = absurd (false≢true e)
 beginning-le (a ∷ f) (b ∷ path) e = omega (arith, beginning-le f path (and_right (eqb a b) (beginning f path) e))
 
 -- the path begins with the front: the places behind it
-module _ (s path : List ℕ) {l : Led} (told : l ≡ lead_of false s path) (fits : l.fits ≡ true) where
+module _ (s path : List ℕ) {l : Led} (told : lead_of false s path ≡ Some l) where
   pub len-path : l.len ≤ length path
-  len-path = omega (arith, lead-len false s path l told fits, beginning-le (front s) path (lead-some false s path l told fits))
+  len-path = omega (arith, lead-len false s path told, beginning-le (front s) path (lead-some false s path told))
 
   pub len-pattern : l.len ≤ length s
-  len-pattern = omega (arith, lead-len false s path l told fits, front-le false s)
+  len-pattern = omega (arith, lead-len false s path told, front-le false s)
 
 rest : (s : List ℕ) (k : ℕ) → take (length s - k) (drop k s) ≡ drop k s
 rest s k = take_all (length s - k) (drop k s) (omega (arith, length-drop k s))
@@ -290,13 +291,13 @@ module _ (text path : List ℕ) (fits : (text_fits text && path_fits path) ≡ t
       (ap₂ ◌&&◌ (and_left (text_fits text) (path_fits path) fits)
       (le-leb (length (drop k path)) 4095 (omega (arith, length-drop k path, leb-true (length path) 4095 (and_right (text_fits text) (path_fits path) fits)))))
 
-module _ (text vars : List ℕ) (n a e : ℕ) (path : List ℕ) {l : Led} (told : l ≡ lead_of false (span text a e) path) (fits : l.fits ≡ true) where
+module _ (text vars : List ℕ) (n a e : ℕ) (path : List ℕ) {l : Led} (told : lead_of false (span text a e) path ≡ Some l) where
   pub behind-matched : (table : List ℕ) {m : Matched} →
       m ≡ matched_all l.slash (pattern_by text vars n table (span text (a + l.len) e)) (take (length path - l.len) (drop l.len path)) →
       m ≡ matched_behind text vars n table (span text a e) path
   unfolding matched_behind
   behind-matched table h =
-      rw (← lead-slash false (span text a e) path l told fits, ← lead-len false (span text a e) path l told fits, drop-span text a e, ← rest path l.len) h
+      rw (← lead-slash false (span text a e) path told, ← lead-len false (span text a e) path told, drop-span text a e, ← rest path l.len) h
 
 module _ {text vars : List ℕ} {n : ℕ} {table : List ℕ} (known : Known text vars n table) (pattern path : List ℕ)
     (good : pattern_fault (env text vars n) pattern ≡ 0) where
@@ -357,15 +358,15 @@ faulty text vs pattern path e = rw (ne_eqb (pattern_fault vs pattern) 0 e) (go (
     go false p = refl
 
 -- one whose first choices do not begin the path behind the front
-pub unopened : (depth : ℕ) (text vars : List ℕ) (n a e : ℕ) (path : List ℕ) {l : Led} → l ≡ lead_of false (span text a e) path → l.fits ≡ true → {o : Bool} →
+pub unopened : (depth : ℕ) (text vars : List ℕ) (n a e : ℕ) (path : List ℕ) {l : Led} → lead_of false (span text a e) path ≡ Some l → {o : Bool} →
     o ≡ opens depth (env text vars n) l.slash (span text (a + l.len) e) (take (length path - l.len) (drop l.len path)) → o ≡ false →
     no_match ≡ matched_of text (env text vars n) (span text a e) path
-unopened depth text vars n a e path {l} told fits q o =
+unopened depth text vars n a e path {l} told q o =
     let vs = env text vars n in
     let s = span text a e in
     let h : opens depth vs l.slash (drop l.len s) (drop l.len path) ≡ false = rw (drop-span text a e, ← rest path l.len) (sym q ∙ o) in
     unmatched text vs s path
-    (some_after_lem vs s path ∙ rest-after false s path l told vs fits ∙ opens-none depth vs l.slash (drop l.len s) (drop l.len path) h)
+    (some_after_lem vs s path ∙ rest-after false s path told vs ∙ opens-none depth vs l.slash (drop l.len s) (drop l.len path) h)
 
 -- text or path too long
 pub unfit : (text : List ℕ) (vs : List Variable) (pattern path : List ℕ) → (text_fits text && path_fits path) ≡ false → no_match ≡ matched_of text vs pattern path

@@ -1,17 +1,16 @@
 -- What the code's values of heads mean over the text, and the names in the table of profiles.
-use Rattle.std.specs.Prelude.{ℕ, zero, suc, ◌*◌, Bool, not, ◌||◌, ◌&&◌, List, [], ◌∷◌, length, ltb}
+use Rattle.std.specs.Prelude.{ℕ, zero, suc, ◌*◌, Bool, not, ◌||◌, ◌&&◌, List, [], ◌∷◌, Result, length, ltb}
 use Prim.Native.Char.{code}
 use Rattle.scan.specs.Bytes.{begins, same, some}
 use Rattle.text.specs.Reading.{Reading, Read, ◌>>=◌, refuse_if}
-use Rattle.text.specs.Places.{refused_by, span_of}
+use Rattle.text.specs.Places.{seen_by, span_of}
+use Rattle.text.specs.declared.Place.{Place}
+use Rattle.text.specs.declared.Stop.{Stop}
 use Rattle.tokens.specs.Tokens.{Token, token_at, wanted}
 use Rattle.pattern.specs.Table.{bytes_at}
 use Rattle.names.specs.Names.{name_form}
 use Rattle.heads.specs.Heads.{Head, brace, open_at}
-use Rattle.heads.specs.declared.OpenRead.{OpenRead}
-use Rattle.heads.specs.declared.OpenRead.TheVariants as brace-read
-use Rattle.heads.specs.declared.HeadRead.{HeadRead}
-use Rattle.heads.specs.declared.HeadRead.TheVariants as head
+use Rattle.heads.specs.declared.Head as code
 
 -- the name at a place, a token that ends at a blank or {; rooted says that it must begin with /
 unfoldable pub name_from : (rooted : Bool) → List ℕ → ℕ → Reading Token
@@ -28,13 +27,12 @@ head_from full used s t = do
   next ← open_at s t.next
   Read (record { name = t.content; next = next })
 
-unfoldable pub seen_open : OpenRead → Reading ℕ
-seen_open (brace-read.Good n) = Read n.0
-seen_open (brace-read.Refused stop) = refused_by stop
+-- what was read, or the refusal
+abbrev pub seen_open : Result Place Stop → Reading ℕ
+seen_open r = seen_by (λ p. p.0) r
 
-unfoldable pub seen_head : List ℕ → HeadRead → Reading Head
-seen_head s (head.Good name n) = Read (record { name = span_of s name; next = n.0 })
-seen_head s (head.Refused stop) = refused_by stop
+abbrev pub seen_head : List ℕ → Result code.Head Stop → Reading Head
+seen_head s r = seen_by (λ h. record { name = span_of s h.name; next = h.next.0 }) r
 
 -- the names of the first n profiles, the last one in front
 unfoldable pub names_of : (text t : List ℕ) → ℕ → List (List ℕ)

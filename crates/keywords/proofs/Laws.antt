@@ -1,45 +1,20 @@
 -- What the definitions of keywords say of a table of words, and by a word's first byte.
 use Rattle.std.specs.Prelude.{if◌then◌else◌}
-use Prim.Native.Nat.{ℕ, zero, suc, ◌+◌, ◌≤◌, ◌<◌, ◌-◌}
+use Prim.Native.Nat.{ℕ, zero, suc}
 use Prim.Native.Char.{code}
 use Prim.Native.String.{String}
 use mathlib.Core.Path.{◌≡◌, refl, ap, sym, ◌∙◌}
-use mathlib.Core.List.{List, [], ◌∷◌, ◌++◌}
+use mathlib.Core.List.{List, [], ◌∷◌}
 use mathlib.Core.Bool.{Bool, true, false, ◌||◌, ◌&&◌, false≢true, or-false}
-use lib.ListN.{length, get_or, take, drop, drop_of_length-le, length-drop}
-use lib.Seq.{drop-cons, take-suc, get_or-drop}
+use lib.ListN.{take, drop}
 use lib.Dec.{eqb}
-use native.Mathlib.Numerals.{add-one}
-use native.Mathlib.Omega.{arith}
-use borrow.Author.Tests.{eqb-true, eq-eqb, ne_eqb}
-use Rattle.scan.specs.Bytes.{begins, between, bytes, every, run, same, some, span}
+use borrow.Author.Tests.{eqb-true}
+use Rattle.scan.specs.Bytes.{begins, between, bytes, every, run, same, some}
 use Rattle.blanks.specs.Blanks.{hash, nul, standing}
 use Rattle.blanks.proofs.Laws.{standing-settled}
 use Rattle.tokens.specs.Tokens.{Next, comma, in_quotes, plain, quote, token_at, token_from}
 use Rattle.tokens.proofs.Laws.{token-by}
-use Rattle.keywords.specs.Keywords.{barred, cut, first_word, fixed_words, not_taken, opening, word_is}
-
--- ---- a table of words, from place i on, where the word before i starts at a
-
-span_more : (t : List ℕ) (a i : ℕ) → a ≤ i → i < length t → span t a (i + 1) ≡ span t a i ++ (get_or t i 0 ∷ [])
-span_more t a i l h =
-    let n : i + 1 - a ≡ suc (i - a) = omega arith in
-    let p : a + (i - a) ≡ i = omega arith in
-    rw (n, take-suc (drop a t) (i - a) 0 (omega (arith, length-drop a t)), get_or-drop, p)
-
-module _ (w t : List ℕ) (a i : ℕ) where
-  pub cut-byte : a ≤ i → i < length t → (get_or t i 0 ≡ code " " → ⊥) → some (same w) (cut (span t a i) (drop i t)) ≡ some (same w) (cut (span t a (i + 1)) (drop (i + 1) t))
-  unfolding cut
-  cut-byte l h n = rw (span_more t a i l h, add-one, drop-cons t i 0, ne_eqb _ _ n, cut)
-
-  pub cut_word : i < length t → get_or t i 0 ≡ code " " →
-      some (same w) (cut (span t a i) (drop i t)) ≡ (same w (span t a i) || some (same w) (cut [] (drop (i + 1) t)))
-  unfolding cut some
-  cut_word h e = rw (add-one, drop-cons t i 0, eq-eqb _ _ e, cut)
-
-  pub cut-end : length t ≤ i → some (same w) (cut (span t a i) (drop i t)) ≡ false
-  unfolding cut some
-  cut-end h = rw (drop_of_length-le t h)
+use Rattle.keywords.specs.Keywords.{barred, first_word, fixed_words, not_taken, opening, word_is}
 
 -- ---- the first byte of a word
 

@@ -1,5 +1,5 @@
 -- Statements of other kinds, by their first words.
-use Rattle.std.specs.Prelude.{ℕ, List, [], ◌∷◌, ◌++◌, Bool, true, false, not, ◌||◌, ◌&&◌, take, eqb, if◌then◌else◌}
+use Rattle.std.specs.Prelude.{ℕ, List, [], ◌∷◌, Bool, true, false, not, ◌||◌, ◌&&◌, take, eqb}
 use Prim.Native.Char.{code}
 use Prim.Native.String.{String}
 use Rattle.scan.specs.Bytes.{between, bytes, same, some}
@@ -31,11 +31,6 @@ abbrev pub first_word : (List ℕ → Bool) → List ℕ → ℕ → Bool
 first_word p s at = word_is p (token_at comma s at)
 
 -- ---- the words in code
-
--- the words of a table, in which a blank stands after each; the bytes before are those of the first one
-unfoldable pub cut : (before table : List ℕ) → List (List ℕ)
-cut w [] = []
-cut w (b ∷ t) = if eqb b (code " ") then w ∷ cut [] t else cut (w ++ (b ∷ [])) t
 
 -- a text begins with a byte that these words begin with
 abbrev pub opening : List ℕ → Bool

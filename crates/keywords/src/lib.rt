@@ -1,39 +1,45 @@
 // The words that no statement may start with.
 #![tactic(auto)]
 
-ghost use Rattle.std.specs.Prelude.{◌≡◌, [], drop};
+ghost use Rattle.std.specs.Prelude.{◌≡◌, drop};
 ghost use Rattle.scan.specs.Bytes.{bytes, same, some};
-ghost use Rattle.keywords.specs.Keywords.{barred, cut, first_word, fixed_words, opening};
+ghost use Rattle.keywords.specs.Keywords.{barred, first_word, fixed_words, opening};
 
 use text::Place;
 use tokens::Read;
 
-// Whether a word is one of a table, in which a blank stands after each word.
-fn is_one_of(word: &[u8], table: &[u8]) -> bool
-    ensures { result ≡ some (same word.now) (cut [] table.now) }
-{
-    let mut from = 0;
-    let mut i = 0;
-    while i < table.len() {
-        if table[i] == b' ' {
-            if scan::same_bytes(word, scan::span(table, from, i)) {
-                return true;
-            }
-            from = i + 1;
-        }
-        i += 1;
-    }
-    false
-}
+// The fixed words.
+const FIXED: [&str; 23] = [
+    "include",
+    "abi",
+    "alias",
+    "capability",
+    "network",
+    "mount",
+    "remount",
+    "umount",
+    "pivot_root",
+    "ptrace",
+    "signal",
+    "dbus",
+    "unix",
+    "change_profile",
+    "set",
+    "link",
+    "hat",
+    "file",
+    "mqueue",
+    "io_uring",
+    "userns",
+    "all",
+    "priority",
+];
 
 // Whether a word is one of the fixed words.
 fn is_fixed(word: &[u8]) -> bool
     ensures { result ≡ some (λ k. same word.now (bytes k)) fixed_words }
 {
-    is_one_of(
-        word,
-        b"include abi alias capability network mount remount umount pivot_root ptrace signal dbus unix change_profile set link hat file mqueue io_uring userns all priority ",
-    )
+    FIXED.iter().any(|k| word == k.as_bytes())
 }
 
 // Whether a statement may not start with a word, inside a profile or outside.
@@ -50,9 +56,8 @@ fn is_barred(word: &[u8], inside: bool) -> bool
 fn may_begin(text: &[u8], at: usize) -> bool
     ensures { result ≡ opening (drop at text.now) }
 {
-    if at < text.len() {
-        let b = text[at];
-        return scan::is_between(b'a', b'z', b) | (b == b'^');
+    if let Some(b) = text.get(at) {
+        return scan::is_between(b'a', b'z', *b) | (*b == b'^');
     }
     false
 }
@@ -66,8 +71,7 @@ pub fn is_not_taken(text: &[u8], at: Place, inside: bool) -> bool
     if !may_begin(text, from) {
         return false;
     }
-    let r = tokens::next_token(text, place, b',');
-    let Read::Found(t) = r else {
+    let Read::Found(t) = tokens::next_token(text, place, b',') else {
         return false;
     };
     let word = tokens::content(text, t);

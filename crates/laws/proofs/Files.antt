@@ -1,4 +1,5 @@
 -- Document 01's findings are the parts of the seven permissions, and its answer is the one that parts give.
+use Rattle.std.proofs.Common.{Option, None, Some, Ok}
 use Rattle.std.specs.Prelude.{if◌then◌else◌}
 use Prim.Native.Nat.{ℕ, ◌<◌}
 use native.Mathlib.Omega.{arith}
@@ -16,15 +17,13 @@ use Rattle.family.specs.Members.{those, all, SameMembers, Choice, None, Single, 
 use Rattle.family.specs.Families.{allows, gathered, carrying, part, join_part, Equal, choice_of, granted, granted_one, recorded}
 use Rattle.family.proofs.Lists.{some-those, those-those}
 use Rattle.modes.specs.declared.Execute.TheVariants as execute
-use Rattle.modes.specs.declared.Transition.{Transition}
-use Rattle.modes.specs.declared.Transition.TheVariants.{Absent, ByMode}
+use Rattle.modes.specs.declared.Mode.{Mode}
 use Rattle.pattern.specs.Expansions.{Variable}
 use Rattle.rule.specs.Rules.{Rule}
 use Rattle.findings.specs.Findings as found
 use Rattle.findings.specs.Findings.{Access, Move, applies, move_by, bits, moves, findings, same_move}
 use Rattle.findings.proofs.Joining.{set-or}
 use Rattle.answer.specs.Answers.{x, chosen, is_mode, named_by, target_of, move_of, execute_of, grants, records, answer_from}
-use Rattle.answer.specs.declared.Verdict.TheVariants as verdict
 use Rattle.laws.specs.Files.{files, Parts, parts_of, six, executed, granted_at, answered}
 use Rattle.laws.specs.Whole.{fits, whole}
 
@@ -35,9 +34,9 @@ abbrev shows : Rule → List Move
 shows r = move_by r.transition r.target
 
 -- a whole rule that does not carry x shows nothing
-silent : (deny : Bool) (p : Perms) (t : Transition) (to : List ℕ) → fits deny p t ≡ true → has p.0 x ≡ false → move_by t to ≡ []
-silent deny p Absent to e h = refl
-silent deny p (ByMode m) to e h = absurd (false≢true (sym h ∙ and_right (not deny) (has p.0 x) e))
+silent : (deny : Bool) (p : Perms) (t : Option Mode) (to : List ℕ) → fits deny p t ≡ true → has p.0 x ≡ false → move_by t to ≡ []
+silent deny p None to e h = refl
+silent deny p (Some m) to e h = absurd (false≢true (sym h ∙ and_right (not deny) (has p.0 x) e))
 
 -- so it may be left out
 shown_by : (p : Rule → Bool) (rs : List Rule) → every whole rs ≡ true → all shows (those (λ r. has r.perms.0 x && p r) rs) ≡ all shows (those p rs)
@@ -241,7 +240,7 @@ module _ (f : Parts) where
   pub answer-six : (asked : ℕ) → answer_from (six f) asked ≡ answered f asked
   unfolding answer_from answered
   answer-six asked = λ i. record {
-    verdict = verdict.Answered;
+    verdict = Ok tt;
     granted = perms (set_same 7 (grants (six f) asked) (λ k. has asked k && granted_at f k) (grants-six asked) i);
     recorded = perms (set_same 7 (records (six f) asked) (λ k. has asked k && recorded (granted_at f k) (f k)) (records-six asked) i);
     execute = execute-six asked i;

@@ -1,4 +1,5 @@
 -- From the answers of rule lists to the answers of texts.
+use Rattle.std.proofs.Common.{Result, Ok, Err}
 use Prim.Native.Nat.{ℕ}
 use mathlib.Core.Path.{◌≡◌, refl, sym, ap, ◌∙◌, subst}
 use mathlib.Core.List.{List, [], ◌∷◌, Memᴰ}
@@ -16,8 +17,6 @@ use Rattle.profile.specs.Profiles.{Profile, File, file_of}
 use Rattle.findings.specs.Findings.{Access, findings, Equal}
 use Rattle.answer.specs.Answers.{answer_from, refusal}
 use Rattle.answer.specs.declared.Answer.{Answer}
-use Rattle.answer.specs.declared.Verdict.{Verdict}
-use Rattle.answer.specs.declared.Verdict.TheVariants as verdict
 use Rattle.decide.specs.Decide.{answer_in, answer_by, answer_of}
 use Rattle.laws.specs.Asked.{named, rules_of, findings_by, findings_of, Given}
 use Rattle.laws.specs.Orders.{Accepted, SameButRules}
@@ -74,9 +73,9 @@ whole text n path asked owner = go (ltb 65535 (length text)) (bad_path path) (ba
 
 -- ---- an answer that is no refusal
 
-is_answered : Verdict → Bool
-is_answered verdict.Answered = true
-is_answered (verdict.Refused r) = false
+is_answered : Result (Unit {0}) Refusal → Bool
+is_answered (Ok tt) = true
+is_answered (Err r) = false
 
 no-refusal : (r : Refusal) → Given (refusal r) → ⊥
 unfolding is_answered

@@ -1,5 +1,6 @@
 -- Every rule of an accepted text is whole.
-use Rattle.std.specs.Prelude.{if◌then◌else◌}
+use Rattle.std.proofs.Common.{Option, None, Some}
+use Rattle.std.specs.Prelude.{Option, Some, None, if◌then◌else◌}
 use Prim.Native.Nat.{ℕ, suc}
 use Prim.Native.Char.{code}
 use native.Mathlib.Omega.{arith}
@@ -16,11 +17,9 @@ use Rattle.perms.specs.Sets.{has, perms}
 use Rattle.perms.proofs.Laws.{has-set}
 use Rattle.perms.specs.declared.Perms.{Perms}
 use Rattle.modes.specs.Modes.{Row, modes, mode_in}
-use Rattle.modes.specs.declared.Transition.{Transition}
-use Rattle.modes.specs.declared.Transition.TheVariants.{Absent, ByMode}
-use Rattle.perms_word.specs.Words.{letters, perm_letter, before_letters, mode_part, carried, named, with_mode, word_of}
+use Rattle.modes.specs.declared.Mode.{Mode}
+use Rattle.perms_word.specs.Words.{letters, perm_letter, before_letters, mode_part, carried, carries, named, with_mode, word_of}
 use Rattle.perms_word.specs.declared.Word.{Word}
-use Rattle.perms_word.specs.declared.Word.TheVariants.{Carries, Bad}
 use Rattle.text.specs.Reading.{refuse_if, judged}
 use Rattle.tokens.specs.Tokens.{Token, comma, is_word, token_at, wanted}
 use Rattle.pattern.specs.Faults.{pattern_fault}
@@ -78,39 +77,39 @@ table-x : every (λ (r : Row). holds (code "x") (bytes r.word)) modes ≡ true
 unfolding every some bytes
 table-x = refl
 
-abbrev Named : List ℕ → Transition → Type 0
-Named w Absent = Unit {0}
-Named w (ByMode m) = holds (code "x") w ≡ true
+abbrev Named : List ℕ → Option Mode → Type 0
+Named w None = Unit {0}
+Named w (Some m) = holds (code "x") w ≡ true
 
 in_table : (rs : List Row) → every (λ (r : Row). holds (code "x") (bytes r.word)) rs ≡ true → (w : List ℕ) → Named w (mode_in rs w)
 unfolding every mode_in
 in_table [] e w = tt
 in_table (r ∷ rs) e w = go (same w (bytes r.word)) refl (in_table rs (and_right (holds (code "x") (bytes r.word)) (every (λ (r : Row). holds (code "x") (bytes r.word)) rs) e) w)
   where
-    go : (b : Bool) → same w (bytes r.word) ≡ b → Named w (mode_in rs w) → Named w (elim b as (λ _. Transition) [ true ↦ ByMode r.mode | false ↦ mode_in rs w ])
+    go : (b : Bool) → same w (bytes r.word) ≡ b → Named w (mode_in rs w) → Named w (elim b as (λ _. Option Mode) [ true ↦ Some r.mode | false ↦ mode_in rs w ])
     go true h k =
         ap (holds (code "x")) (same-eq w (bytes r.word) h) ∙ and_left (holds (code "x") (bytes r.word)) (every (λ (r : Row). holds (code "x") (bytes r.word)) rs) e
     go false h k = k
 
 -- ---- a word of permissions
 
-abbrev Fits : Bool → Word → Type 0
-Fits deny (Carries p tr) = fits deny p tr ≡ true
-Fits deny Bad = Unit {0}
+abbrev Fits : Bool → Option Word → Type 0
+Fits deny (Some w) = fits deny w.perms w.transition ≡ true
+Fits deny None = Unit {0}
 
 mode-fits : (deny : Bool) (p : Perms) (m : List ℕ) → has p.0 x ≡ holds (code "x") m → Fits deny (with_mode deny p m)
 unfolding with_mode some
 mode-fits deny p [] e = rw e (or-true deny)
 mode-fits true p (b ∷ m) e = go (same (b ∷ m) (bytes "x"))
   where
-    go : (c : Bool) → Fits true (elim c as (λ _. Word) [ true ↦ Carries p Absent | false ↦ Bad ])
+    go : (c : Bool) → Fits true (elim c as (λ _. Option Word) [ true ↦ carries p None | false ↦ None ])
     go true = refl
     go false = tt
 mode-fits false p (b ∷ m) e = go (mode_in modes (b ∷ m)) (in_table modes table-x (b ∷ m))
   where
-    go : (t : Transition) → Named (b ∷ m) t → Fits false (named p t)
-    go Absent h = tt
-    go (ByMode k) h = e ∙ h
+    go : (t : Option Mode) → Named (b ∷ m) t → Fits false (named p t)
+    go None h = tt
+    go (Some k) h = e ∙ h
 
 carries-x : (w : List ℕ) → has (carried w) x ≡ holds (code "x") w
 unfolding carried letters bytes
@@ -121,7 +120,7 @@ unfolding word_of
 word_fits deny [] = tt
 word_fits deny (b ∷ w) = go (holds (code "w") (b ∷ w) && holds (code "a") (b ∷ w))
   where
-    go : (c : Bool) → Fits deny (if c then Bad else with_mode deny (perms (carried (b ∷ w))) (mode_part (b ∷ w)))
+    go : (c : Bool) → Fits deny (if c then None else with_mode deny (perms (carried (b ∷ w))) (mode_part (b ∷ w)))
     go true = tt
     go false = mode-fits deny (perms (carried (b ∷ w))) (mode_part (b ∷ w)) (carries-x (b ∷ w) ∙ mode-x (b ∷ w))
 
@@ -133,9 +132,9 @@ perms-fit deny s at =
     next _ (wanted (token_at comma s at)) λ t.
     next _ (refuse_if (t.quoted || is_word t (bytes ",")) 4 t.start) λ u. go t (word_of deny t.content) (word_fits deny t.content)
   where
-    go : (t : Token) (w : Word) → Fits deny w → Keeps (λ (p : Permissions). fits deny p.perms p.transition ≡ true) (carried_by t w)
-    go t (Carries p tr) h = kept h
-    go t Bad h = refused
+    go : (t : Token) (w : Option Word) → Fits deny w → Keeps (λ (p : Permissions). fits deny p.perms p.transition ≡ true) (carried_by t w)
+    go t (Some w) h = kept h
+    go t None h = refused
 
 rule-whole : (fault : List ℕ → ℕ) (s : List ℕ) (q : Qualifiers) (t : Token) → Keeps (λ (r : RuleRead). whole r.rule ≡ true) (rule_from fault s q t)
 unfolding rule_from rule_end

@@ -1,6 +1,6 @@
 -- "Rules are the same when their tokens are, quotes, a written allow and the order or repeating of letters in PERMS aside": such rules are
 -- read as equal.
-use Rattle.std.specs.Prelude.{if◌then◌else◌}
+use Rattle.std.specs.Prelude.{Option, Some, None, if◌then◌else◌}
 use Prim.Native.Nat.{ℕ, ◌+◌}
 use Prim.Native.Char.{code}
 use mathlib.Core.Path.{◌≡◌, refl, sym, ap, ◌∙◌}
@@ -13,10 +13,9 @@ use Rattle.scan.specs.Bytes.{bytes, same, holds, every, some}
 use Rattle.scan.proofs.Laws.{same_self}
 use Rattle.perms.specs.Sets.{set_of, perms}
 use Rattle.perms.specs.declared.Perms.{Perms}
-use Rattle.modes.specs.declared.Transition.{Transition}
-use Rattle.perms_word.specs.Words.{letters, carried, with_mode, word_of}
+use Rattle.modes.specs.declared.Mode.{Mode}
+use Rattle.perms_word.specs.Words.{letters, carried, carries, with_mode, word_of}
 use Rattle.perms_word.specs.declared.Word.{Word}
-use Rattle.perms_word.specs.declared.Word.TheVariants.{Carries, Bad}
 use Rattle.text.specs.Reading.{Reading, Read, Refused, ◌>>=◌, refuse_if, judged}
 use Rattle.blanks.specs.Blanks.{standing, stands_at}
 use Rattle.tokens.specs.Tokens.{Token, comma, no_stop, is_word, token_at, wanted}
@@ -37,7 +36,7 @@ carried_same v w h = λ i. set_of 7 (λ k. h (get_or letters k 0) i || (eqb k 2 
 pub same-meaning : (v w : Written) → SameTokens v w → meaning v ≡ meaning w
 unfolding meaning same bytes
 same-meaning v w h = λ i.
-    let said : Word = with_mode (deny i) (perms (carried_same v.perms w.perms h.letters i)) (h.mode i) in
+    let said : Option Word = with_mode (deny i) (perms (carried_same v.perms w.perms h.letters i)) (h.mode i) in
     record {
       audit = h.qualifiers (bytes "audit") refl i;
       deny = deny i;
@@ -118,12 +117,12 @@ module _ (s : List ℕ) (at : ℕ) where
 -- ---- PERMS and the target
 
 -- a good word carries what its letters and its mode say
-word-says : (deny : Bool) (w : List ℕ) (p : Perms) (tr : Transition) → word_of deny w ≡ Carries p tr → says deny w ≡ Carries p tr
+word-says : (deny : Bool) (w : List ℕ) (p : Perms) (tr : Option Mode) → word_of deny w ≡ carries p tr → says deny w ≡ carries p tr
 unfolding word_of
 word-says deny [] p tr e = let z : ◌≡◌ {A = ℕ} 0 1 = cc in absurd (omega arith)
 word-says deny (b ∷ w) p tr e = go (holds (code "w") (b ∷ w) && holds (code "a") (b ∷ w)) e
   where
-    go : (both : Bool) → (if both then Bad else says deny (b ∷ w)) ≡ Carries p tr → says deny (b ∷ w) ≡ Carries p tr
+    go : (both : Bool) → (if both then None else says deny (b ∷ w)) ≡ carries p tr → says deny (b ∷ w) ≡ carries p tr
     go true q = let z : ◌≡◌ {A = ℕ} 0 1 = cc in absurd (omega arith)
     go false q = q
 
@@ -132,15 +131,15 @@ record PermsSaid (deny : Bool) (s : List ℕ) (at : ℕ) (p : Permissions) : Typ
   token : Token
   stands : wanted (token_at comma s at) ≡ Read token
   next : p.next ≡ token.next
-  said : says deny token.content ≡ Carries p.perms p.transition
+  said : says deny token.content ≡ carries p.perms p.transition
 
 perms-said : (deny : Bool) (s : List ℕ) (at : ℕ) (p : Permissions) → perms_at deny s at ≡ Read p → PermsSaid deny s at p
 unfolding perms_at
 perms-said deny s at p e = go (wanted (token_at comma s at)) refl e
   where
-    by : (t : Token) (w : Word) → carried_by t w ≡ Read p → (p.next ≡ t.next) × (w ≡ Carries p.perms p.transition)
-    by t (Carries q tr) f = let k : p ≡ record { perms = q; transition = tr; next = t.next } = cc in rw k (refl, refl)
-    by t Bad f = let z : ◌≡◌ {A = ℕ} 0 1 = cc in absurd (omega arith)
+    by : (t : Token) (w : Option Word) → carried_by t w ≡ Read p → (p.next ≡ t.next) × (w ≡ carries p.perms p.transition)
+    by t (Some v) f = let k : p ≡ record { perms = v.perms; transition = v.transition; next = t.next } = cc in rw k (refl, refl)
+    by t None f = let z : ◌≡◌ {A = ℕ} 0 1 = cc in absurd (omega arith)
 
     go : (x : Reading Token) → wanted (token_at comma s at) ≡ x
         → (x >>= λ t. refuse_if (t.quoted || is_word t (bytes ",")) 4 t.start >>= λ _. carried_by t (word_of deny t.content)) ≡ Read p → PermsSaid deny s at p
@@ -156,7 +155,7 @@ record TargetSaid (s : List ℕ) (at : ℕ) (to : Target) : Type 0 where
   next : to.next ≡ targets.next
   said : target_by targets.words ≡ to.target
 
-target-said : (tr : Transition) (s : List ℕ) (at : ℕ) (to : Target) → target_at tr s at ≡ Read to → TargetSaid s at to
+target-said : (tr : Option Mode) (s : List ℕ) (at : ℕ) (to : Target) → target_at tr s at ≡ Read to → TargetSaid s at to
 unfolding target_at targets_at
 target-said tr s at to e = go (stands_at (bytes "->") s at) refl e
   where

@@ -1,5 +1,5 @@
 -- The asked profile of a text: its rules, and their findings on a request.
-use Rattle.std.specs.Prelude.{ℕ, ◌≡◌, List, [], ◌∷◌, Bool, true, false, ◌||◌}
+use Rattle.std.specs.Prelude.{ℕ, ◌≡◌, List, [], ◌∷◌, Bool, true, false, ◌||◌, Ok}
 use Rattle.scan.specs.Bytes.{same}
 use Rattle.text.specs.Reading.{Reading, Read, Refused}
 use Rattle.rule.specs.Rules.{Rule}
@@ -7,7 +7,6 @@ use Rattle.preamble.specs.Variables.{final_sets}
 use Rattle.profile.specs.Profiles.{Profile, File, file_of}
 use Rattle.findings.specs.Findings.{Access, Findings, findings}
 use Rattle.answer.specs.declared.Answer.{Answer}
-use Rattle.answer.specs.declared.Verdict.TheVariants as verdict
 
 -- some profile has this name
 unfoldable pub named : (name : List ℕ) → List Profile → Bool
@@ -29,4 +28,4 @@ findings_of text n path owner = findings_by (file_of text) n (record { path = pa
 
 -- "Unless a numbered refusal is given"
 abbrev pub Given : Answer → Type 0
-Given a = a.verdict ≡ verdict.Answered
+Given a = a.verdict ≡ Ok tt

@@ -1,5 +1,5 @@
 -- Pairs of texts that meet what the sentences of demand 3 suppose, so that none holds of nothing, and pairs that show where they stop.
-use Rattle.std.specs.Prelude.{ℕ, ◌≡◌, refl, Bool, true, false}
+use Rattle.std.specs.Prelude.{ℕ, ◌≡◌, refl, Bool, true, false, Option, None, Some}
 use Prim.Native.String.{String}
 use Rattle.std.proofs.Common.{sym, ap, subst, ⊎_elim, arith}
 use mathlib.Core.List.Memᴰ
@@ -12,8 +12,6 @@ use Rattle.modes.specs.declared.Fallback.TheVariants as fallback
 use Rattle.modes.specs.declared.Mode.{Mode}
 use Rattle.modes.specs.declared.Execute.{Execute}
 use Rattle.modes.specs.declared.Execute.TheVariants.{Conflict, ByMode}
-use Rattle.modes.specs.declared.Transition.{Transition}
-use Rattle.modes.specs.declared.Transition.TheVariants as transition
 use Rattle.rule.specs.Rules.{Rule}
 use Rattle.profile.specs.Profiles.{Profile, File}
 use Rattle.findings.specs.Findings.{allows, denies, Equal}
@@ -23,7 +21,7 @@ use Rattle.laws.specs.Asked.{named, rules_of, findings_of, Given}
 use Rattle.laws.specs.Orders.{Accepted, SameButRules}
 
 -- a rule without audit, owner and target
-abbrev pub rule : (deny : Bool) → String → ℕ → Transition → Rule
+abbrev pub rule : (deny : Bool) → String → ℕ → Option Mode → Rule
 rule deny pattern set tr =
     record { audit = false; deny = deny; owner = false; pattern = bytes pattern; perms = perms set; transition = tr; target = [] }
 
@@ -57,10 +55,10 @@ abbrev pub shuffled : String
 shuffled = "profile /p { /b ww, # again\n \"/a\" r, allow /a rr, }"
 
 abbrev pub read_a : Rule
-read_a = rule false "/a" 1 transition.Absent
+read_a = rule false "/a" 1 None
 
 abbrev pub write_b : Rule
-write_b = rule false "/b" 6 transition.Absent
+write_b = rule false "/b" 6 None
 
 pub ordered-file : Accepted (bytes ordered) (only "/p" (read_a ∷ write_b ∷ []))
 unfolding computed
@@ -119,10 +117,10 @@ other-order =
 -- ---- deny rules added
 
 abbrev pub opened : Rule
-opened = rule false "/a*" 7 transition.Absent
+opened = rule false "/a*" 7 None
 
 abbrev pub barred : Rule
-barred = rule true "/ab" 6 transition.Absent
+barred = rule true "/ab" 6 None
 
 pub open-file : Accepted (bytes "/p { /a* rw, }") (only "/p" (opened ∷ []))
 unfolding computed
@@ -138,13 +136,13 @@ denied-more = one-profile (Added denies) "/p" (added barred refl (kept opened (a
 -- ---- allow rules added
 
 abbrev runs : Rule
-runs = rule false "/bin/*" 64 (transition.ByMode px)
+runs = rule false "/bin/*" 64 (Some px)
 
 abbrev inherits : Rule
-inherits = rule false "/bin/c*" 64 (transition.ByMode ix)
+inherits = rule false "/bin/c*" 64 (Some ix)
 
 abbrev exact : Rule
-exact = rule false "/bin/cat" 64 (transition.ByMode ix)
+exact = rule false "/bin/cat" 64 (Some ix)
 
 pub runs-file : Accepted (bytes "/p { /bin/* px, }") (only "/p" (runs ∷ []))
 unfolding computed

@@ -1,5 +1,5 @@
 -- A file request: its rules as a family for each permission; document 01's six sets and the answer, read off the parts of the seven.
-use Rattle.std.specs.Prelude.{ℕ, List, [], Bool, ◌&&◌, eqb, if◌then◌else◌}
+use Rattle.std.specs.Prelude.{ℕ, List, [], Bool, ◌&&◌, eqb, if◌then◌else◌, Ok}
 use Rattle.perms.specs.Sets.{has, set_of, perms}
 use Rattle.family.specs.Families.{Family, Part, part, choice_of, granted, granted_one, recorded}
 use Rattle.modes.specs.declared.Execute.{Execute}
@@ -10,7 +10,6 @@ use Rattle.rule.specs.Rules.{Rule}
 use Rattle.findings.specs.Findings.{Access, Move, Findings, applies, move_by, same_move}
 use Rattle.answer.specs.Answers.{x, chosen, named_by, target_of}
 use Rattle.answer.specs.declared.Answer.{Answer}
-use Rattle.answer.specs.declared.Verdict.TheVariants as verdict
 
 -- the rules of a profile under a file request, as permission k sees them: for x with their transitions
 abbrev pub files : List Variable → Access → ℕ → Family Rule Move
@@ -54,7 +53,7 @@ granted_at f k = if eqb k x then granted_one same_move (f k) else granted (f k)
 unfoldable pub answered : Parts → (asked : ℕ) → Answer
 answered f asked =
     record {
-      verdict = verdict.Answered;
+      verdict = Ok tt;
       granted = perms (set_of 7 (λ k. has asked k && granted_at f k));
       recorded = perms (set_of 7 (λ k. has asked k && recorded (granted_at f k) (f k)));
       execute = executed f asked;

@@ -1,5 +1,5 @@
 -- The ten marked cases of text T, of the definitions, by one statement over one table.
-use Rattle.std.specs.Prelude.{ℕ, ◌≡◌, refl, List, [], ◌∷◌, map, Bool, true, false}
+use Rattle.std.specs.Prelude.{ℕ, ◌≡◌, refl, List, [], ◌∷◌, map, Bool, true, false, Ok}
 use Prim.Native.String.{String}
 use Rattle.scan.specs.Bytes.{bytes}
 use Rattle.perms.specs.Sets.{perms}
@@ -11,7 +11,6 @@ use Rattle.answer.specs.Answers.{target_of}
 use Rattle.decide.specs.Decide.{answer_of}
 use Rattle.answer.specs.declared.Answer.{Answer}
 use Rattle.laws.specs.Computed.{computed}
-use Rattle.answer.specs.declared.Verdict.TheVariants.{Answered}
 
 -- "Text T"
 abbrev pub text_t : String
@@ -58,7 +57,7 @@ given c = answer_of (bytes text_t) (bytes "step") (bytes c.path) c.asked c.owner
 abbrev pub stated : Case → Answer
 stated c =
     record {
-      verdict = Answered;
+      verdict = Ok tt;
       granted = perms c.granted;
       recorded = perms c.recorded;
       execute = c.execute;

@@ -1,14 +1,12 @@
 -- The rules of a text as they are written, token by token, and when two rules are the same.
-use Rattle.std.specs.Prelude.{ℕ, zero, suc, ◌+◌, ◌≡◌, Bool, true, false, if◌then◌else◌}
+use Rattle.std.specs.Prelude.{ℕ, zero, suc, ◌+◌, ◌≡◌, Option, Some, None, Bool, true, false, if◌then◌else◌}
 use mathlib.Core.List.{List, [], ◌∷◌, ◌++◌, map, Memᴰ}
 use Rattle.scan.specs.Bytes.{bytes, same, holds, some}
 use Rattle.perms.specs.Sets.{perms}
 use Rattle.perms.specs.declared.Perms.{Perms}
-use Rattle.modes.specs.declared.Transition.{Transition}
-use Rattle.modes.specs.declared.Transition.TheVariants.{Absent}
+use Rattle.modes.specs.declared.Mode.{Mode}
 use Rattle.perms_word.specs.Words.{mode_part, carried, with_mode}
 use Rattle.perms_word.specs.declared.Word.{Word}
-use Rattle.perms_word.specs.declared.Word.TheVariants.{Carries, Bad}
 use Rattle.text.specs.Reading.{Reading, Read, Refused, ◌>>=◌}
 use Rattle.blanks.specs.Blanks.{standing, stands_at}
 use Rattle.tokens.specs.Tokens.{comma, no_stop, token_at, wanted}
@@ -85,13 +83,13 @@ pub record SameTokens (v w : Written) : Type 0 where
 -- ---- what the tokens of a rule say
 
 -- what a word carries, and its transition; nothing where it is bad
-abbrev pub perms_by : Word → Perms
-perms_by (Carries p tr) = p
-perms_by Bad = perms 0
+abbrev pub perms_by : Option Word → Perms
+perms_by (Some w) = w.perms
+perms_by None = perms 0
 
-abbrev pub transition_by : Word → Transition
-transition_by (Carries p tr) = tr
-transition_by Bad = Absent
+abbrev pub transition_by : Option Word → Option Mode
+transition_by (Some w) = w.transition
+transition_by None = None
 
 -- the target, empty where there is none
 abbrev pub target_by : List (List ℕ) → List ℕ
@@ -99,14 +97,14 @@ target_by [] = []
 target_by (t ∷ ts) = t
 
 -- what PERMS says: the permissions of its letters, and its mode
-abbrev pub says : (deny : Bool) → List ℕ → Word
+abbrev pub says : (deny : Bool) → List ℕ → Option Word
 says deny w = with_mode deny (perms (carried w)) (mode_part w)
 
 -- the rule that the tokens say
 unfoldable pub meaning : Written → Rule
 meaning w =
     let has : List ℕ → Bool = λ word. some (same word) w.qualifiers in
-    let said : Word = says (has (bytes "deny")) w.perms in
+    let said : Option Word = says (has (bytes "deny")) w.perms in
     record {
       audit = has (bytes "audit");
       deny = has (bytes "deny");

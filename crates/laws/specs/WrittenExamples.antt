@@ -1,12 +1,11 @@
 -- Pairs of texts that meet what the sentences of demand 3 suppose of rules as they are written.
-use Rattle.std.specs.Prelude.{ℕ, ◌≡◌, refl, Bool, true, false, ◌||◌, eqb}
+use Rattle.std.specs.Prelude.{ℕ, ◌≡◌, refl, Bool, true, false, ◌||◌, eqb, None}
 use Prim.Native.Char.{code}
 use Prim.Native.String.{String}
 use Rattle.std.proofs.Common.{sym, ap, subst, ⊎_elim, arith}
 use mathlib.Core.List.Memᴰ
 use mathlib.Core.List.{List, [], ◌∷◌, Memᴰ}
 use Rattle.scan.specs.Bytes.{bytes}
-use Rattle.modes.specs.declared.Transition.TheVariants as transition
 use Rattle.text.specs.Reading.{Read}
 use Rattle.laws.specs.Computed.{computed}
 use Rattle.laws.specs.Written as tokens
@@ -145,7 +144,7 @@ barred-as = record { file = only "/p" (barred ∷ opened ∷ []); accepted = rec
 
 pub mapped-as : AcceptedAs (bytes "/p { allow /a* rw, /ab m, }") (only_written "/p" (kept_written ∷ read_written ∷ []))
 unfolding computed written_at qualifier_words words_by targets_at unless_closed rules_written profiles_written written_of
-mapped-as = record { file = only "/p" (opened ∷ rule false "/ab" 8 transition.Absent ∷ []); accepted = record { short = omega arith; file = refl }; written = refl }
+mapped-as = record { file = only "/p" (opened ∷ rule false "/ab" 8 None ∷ []); accepted = record { short = omega arith; file = refl }; written = refl }
 
 -- a written allow and the place are of no matter
 with-allow : (pattern perms : String) (m n : ℕ) → SameTokens (written [] pattern perms m) (written (bytes "allow" ∷ []) pattern perms n)

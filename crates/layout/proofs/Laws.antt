@@ -1,11 +1,14 @@
--- Zeros written one by one, and a head and a target written over them.
+-- Zeros, and a head and a target written over them.
 use Prim.Native.Nat.{ℕ, zero, suc, ◌+◌, ◌-◌, ◌≤◌, ◌<◌, min}
 use native.Mathlib.Omega.{arith}
 use native.Mathlib.Numerals.{add-one}
-use mathlib.Core.Path.{◌≡◌, sym, ap, ap₂, ◌∙◌}
+use mathlib.Core.Path.{◌≡◌, refl, sym, ap, ap₂, ◌∙◌}
 use mathlib.Core.List.{List, [], ◌++◌, append_assoc, append-nil}
 use lib.ListN.{length, replicate, set, take, drop, length-take, length-replicate, get_or-replicate}
 use lib.Seq.{paste, paste-suc, length-paste, take_all, take-length, take-append_seam, drop-append-add, drop-append-le, drop-length}
+use borrow.Rule.Slice.PartMut.{put_mid}
+use Rattle.std.proofs.lemmas.Slice.{put_mid-paste}
+use Rattle.std.proofs.lemmas.List.{drop_at, drop-replicate}
 use Rattle.scan.specs.Bytes.{span}
 use Rattle.text.specs.Places.{span_of}
 use Rattle.answer.specs.Answers.{whole_of}
@@ -22,21 +25,6 @@ zeros n = replicate n 0
 zeros-length : (n : ℕ) → length (zeros n) ≡ n
 zeros-length n = length-replicate n 0
 
-module _ (b : List ℕ) (at n i : ℕ) where
-  pub cleared-length : i ≤ n → at + n ≤ length b → length (paste b at (zeros n) i) ≡ length b
-  cleared-length h l = length-paste b at (zeros n) i (omega arith) (omega (arith, zeros-length n))
-
-  pub cleared-next : i < n → at + n ≤ length b → set (paste b at (zeros n) i) (at + i) 0 ≡ paste b at (zeros n) (i + 1)
-  cleared-next h l =
-      ap (set (paste b at (zeros n) i) (at + i)) (sym (get_or-replicate n i 0 0 h))
-      ∙ paste-suc b at (zeros n) i 0 (omega arith) (omega (arith, zeros-length n))
-      ∙ ap (paste b at (zeros n)) (sym (add-one i))
-
-drop-zeros : (k n : ℕ) → k ≤ n → drop k (zeros n) ≡ zeros (n - k)
-drop-zeros zero n h = let e : n ≡ n - 0 = omega arith in ap zeros e
-drop-zeros (suc k) zero h = absurd (omega arith)
-drop-zeros (suc k) (suc n) h = drop-zeros k n (omega arith) ∙ (let e : n - k ≡ suc n - suc k = omega arith in ap zeros e)
-
 -- ---- the bytes of an answer
 
 -- t over the first bytes of m, which stand behind p
@@ -46,25 +34,22 @@ pasted p m q t h =
     ∙ ap (λ (x : List ℕ). p ++ x ++ (drop (length t) m ++ q)) (take-length t)
     ∙ append_assoc p t (drop (length t) m ++ q)
 
--- n zeros behind the head's place, then a target over them, then the head
-pub laid : (b h t one two three : List ℕ) (a n : ℕ) → a ≡ length h → length t ≤ n → a + n ≤ length b
-    → one ≡ paste b a (zeros n) n → two ≡ paste one a t (length t) → three ≡ paste two 0 h (length h)
-    → three ≡ h ++ (t ++ zeros (n - length t)) ++ drop (a + n) b
-laid b h t one two three a n e k room x y z =
+-- n zeros behind the place a, then a target over them, and what stands from a on
+pub laid : (b one two t : List ℕ) (a n m : ℕ) → a + n ≤ length b → length t ≤ n → m ≡ length t → one ≡ zeros n → two ≡ t
+    → drop a (put_mid a m (put_mid a n b one) two) ≡ t ++ zeros (n - length t) ++ drop (a + n) b
+laid b one two t a n m room h l e f =
     let p = take a b in
     let zs = zeros n in
     let q = drop (a + n) b in
     let size : length p ≡ a = simp length-take (omega arith) in
-    let first : one ≡ p ++ (zs ++ q) = x ∙ ap (λ (l : List ℕ). p ++ l ++ q) (take_all n zs (omega (arith, zeros-length n))) ∙ append_assoc p zs q in
+    let first : put_mid a n b one ≡ p ++ (zs ++ q) =
+    put_mid-paste a n b one zs n e refl (sym (zeros-length n)) ∙ ap (λ (x : List ℕ). p ++ x ++ q) (take_all n zs (omega (arith, zeros-length n))) ∙ append_assoc p zs q in
     let rest = t ++ (drop (length t) zs ++ q) in
-    let second : two ≡ p ++ rest = y ∙ ap₂ (λ (l : List ℕ) (i : ℕ). paste l i t (length t)) first (sym size) ∙ pasted p zs q t (omega (arith, zeros-length n)) in
-    let none : drop (length h) p ≡ [] = ap (λ (i : ℕ). drop i p) (sym e ∙ sym size) ∙ drop-length p in
-    z
-    ∙ ap (λ (l : List ℕ). paste l 0 h (length h)) second
-    ∙ pasted [] p rest h (omega arith)
-    ∙ ap (λ (l : List ℕ). h ++ (l ++ rest)) none
-    ∙ ap (λ (l : List ℕ). h ++ (t ++ (l ++ q))) (drop-zeros (length t) n k)
-    ∙ simp append_assoc
+    let second : put_mid a m (put_mid a n b one) two ≡ p ++ rest =
+    put_mid-paste a m (put_mid a n b one) two t (length t) f (sym l) refl
+    ∙ ap₂ (λ (x : List ℕ) (i : ℕ). paste x i t (length t)) first (sym size)
+    ∙ pasted p zs q t (omega (arith, zeros-length n)) in
+    ap (drop a) second ∙ drop_at p rest a size ∙ ap (λ (x : List ℕ). t ++ (x ++ q)) (drop-replicate (length t) n 0) ∙ sym (append_assoc t (zeros (n - length t)) q)
 
 -- 255 bytes leave no room for zeros
 pub laid-whole : (a : Answer) (h t : List ℕ) → h ≡ head_by (refusal_of a.verdict) a.granted a.recorded (execute_number a.execute) a.target.len → 255 ≡ length t → t ≡ a.target.bytes

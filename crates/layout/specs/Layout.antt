@@ -1,17 +1,15 @@
 -- The bytes of an answer as C gets them.
-use Rattle.std.specs.Prelude.{ℕ, ◌/◌, ◌%◌, List, [], ◌∷◌, ◌++◌}
+use Rattle.std.specs.Prelude.{ℕ, ◌/◌, ◌%◌, List, [], ◌∷◌, ◌++◌, Result, Ok, Err}
 use Rattle.perms.specs.declared.Perms.{Perms}
 use Rattle.modes.specs.Modes.{execute_number}
 use Rattle.text.specs.Reading.{nowhere}
 use Rattle.text.specs.declared.Refusal.{Refusal}
 use Rattle.answer.specs.declared.Answer.{Answer}
-use Rattle.answer.specs.declared.Verdict.{Verdict}
-use Rattle.answer.specs.declared.Verdict.TheVariants.{Answered, Refused}
 
 -- number, line and column are 0 where nothing is refused
-abbrev pub refusal_of : Verdict → Refusal
-refusal_of Answered = nowhere 0
-refusal_of (Refused r) = r
+abbrev pub refusal_of : Result (Unit {0}) Refusal → Refusal
+refusal_of (Ok tt) = nowhere 0
+refusal_of (Err r) = r
 
 -- a number in four bytes, the lowest first
 abbrev pub four_bytes : ℕ → List ℕ

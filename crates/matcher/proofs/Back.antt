@@ -1,8 +1,7 @@
 -- Pieces that take a byte each at the end of a path, and what is left before them: those at its front, read from the end.
-use Rattle.std.specs.Prelude.{if◌then◌else◌}
-use Prim.Native.Nat.{ℕ, suc, ◌+◌, ◌-◌, ◌≤◌, ◌<◌}
+use Prim.Native.Nat.{ℕ, suc, ◌-◌, ◌≤◌, ◌<◌}
 use mathlib.Core.Path.{◌≡◌, refl, sym, ap, ap₂, ◌∙◌}
-use mathlib.Core.Bool.{Bool, false}
+use mathlib.Core.Bool.{false}
 use mathlib.Core.List.{List, [], ◌∷◌, map, map-append, reverse, reverse-cons, reverse-append}
 use lib.ListN.{length, get_or, take, drop, length-reverse, length-drop, take-append-drop}
 use lib.Seq.{take-suc, drop_at, get_or-drop}
@@ -11,9 +10,9 @@ use native.Mathlib.Omega.{arith}
 use Rattle.pattern.specs.Pieces.{Piece}
 use Rattle.pattern.specs.Codes.{decode}
 use Rattle.matcher.specs.Match.{accepts}
-use Rattle.matcher.specs.Walk.{repeats_of, taken, takes_one}
+use Rattle.matcher.specs.Walk.{repeats_of, taken}
 use Rattle.matcher.proofs.Laws.{matches-only, matches-reverse}
-use Rattle.matcher.proofs.Front.{whole, taken_at, taken-short, taken-end, taken-le, taken-left, taken-dead}
+use Rattle.matcher.proofs.Front.{whole, taken-le, taken-left, taken-dead}
 
 -- ---- a list read from its end
 
@@ -34,21 +33,6 @@ get_d_reverse l i h =
 map-reverse : (f : ℕ → Piece) (l : List ℕ) → map f (reverse l) ≡ reverse (map f l)
 map-reverse f [] = refl
 map-reverse f (c ∷ l) = rw (reverse-cons c l, reverse-cons (f c) (map f l), map-append f (reverse l) (c ∷ []), map-reverse f l)
-
--- ---- how many are taken from the end, by a place: a piece and a byte stand there, or the path ends, or the pieces
-
-module _ (text codes path : List ℕ) (i : ℕ) where
-  pub back_at : i < length codes → i < length path → (t : Bool) → t ≡ takes_one (decode text (get_or codes (length codes - 1 - i) 0)) (get_or path (length path - 1 - i) 0)
-      → taken text (drop i (reverse codes)) (drop i (reverse path)) ≡ (if t then suc (taken text (drop (i + 1) (reverse codes)) (drop (i + 1) (reverse path))) else 0)
-  back_at h l t e =
-      taken_at text (reverse codes) (reverse path) i (omega (arith, length-reverse codes)) (omega (arith, length-reverse path)) t
-      (e ∙ rw (get_d_reverse codes i h, get_d_reverse path i l))
-
-  pub back-short : length path ≤ i → taken text (drop i (reverse codes)) (drop i (reverse path)) ≡ 0
-  back-short h = taken-short text (reverse codes) (reverse path) i (omega (arith, length-reverse path))
-
-  pub back_end : length codes ≤ i → taken text (drop i (reverse codes)) (drop i (reverse path)) ≡ 0
-  back_end h = taken-end text (reverse codes) (reverse path) i (omega (arith, length-reverse codes))
 
 -- ---- what stands before the pieces taken from the end must match; a piece there that is no star does not; one piece alone must accept
 

@@ -1,13 +1,12 @@
 -- Pieces that take a byte each at the front of a path, and what is left behind them.
 use Rattle.std.specs.Prelude.{if◌then◌else◌}
+use Rattle.std.specs.List.{prefix_len, zip}
 use Prim.Native.Nat.{ℕ, suc, ◌+◌, ◌-◌, ◌≤◌, ◌<◌}
 use mathlib.Core.Path.{◌≡◌, refl, sym, ◌∙◌}
-use mathlib.Core.Bool.{Bool, true, false, not, ◌&&◌}
+use mathlib.Core.Bool.{Bool, true, false, not, ◌&&◌, cond}
 use mathlib.Core.List.{List, [], ◌∷◌, map}
 use lib.ListN.{length, get_or, drop, drop_of_length-le, length-drop}
-use lib.Seq.{drop-cons}
 use lib.Dec.{eqb}
-use native.Mathlib.Numerals.{add-one}
 use native.Mathlib.Omega.{arith}
 use borrow.Author.Tests.{eq-eqb, ne_eqb, not-true}
 use Rattle.scan.specs.Bytes.{is_empty}
@@ -17,24 +16,20 @@ use Rattle.matcher.specs.Match.{matches}
 use Rattle.matcher.specs.Walk.{repeats_of, taken, takes_of, takes_one}
 use Rattle.matcher.proofs.Laws.{matches-nil, matches-one}
 
--- how many are taken, by a place: a piece and a byte stand there, or the path ends, or the pieces
-module _ (text codes path : List ℕ) (i : ℕ) where
-  pub taken_at : i < length codes → i < length path → (t : Bool) → t ≡ takes_one (decode text (get_or codes i 0)) (get_or path i 0)
-      → taken text (drop i codes) (drop i path) ≡ (if t then suc (taken text (drop (i + 1) codes) (drop (i + 1) path)) else 0)
-  unfolding taken
-  taken_at h l t e = rw (e, add-one, drop-cons codes i 0, drop-cons path i 0, taken)
+-- how many are taken, by the pairs of a piece and a byte
+abbrev pub takes_pair : List ℕ → ℕ × ℕ → Bool
+takes_pair text p = takes_one (decode text p.0) p.1
 
-  pub taken-short : length path ≤ i → taken text (drop i codes) (drop i path) ≡ 0
-  unfolding taken
-  taken-short h = rw (drop_of_length-le path h) (go (drop i codes))
-    where
-      go : (cs : List ℕ) → taken text cs [] ≡ 0
-      go [] = refl
-      go (c ∷ cs) = refl
-
-  pub taken-end : length codes ≤ i → taken text (drop i codes) (drop i path) ≡ 0
-  unfolding taken
-  taken-end h = rw (drop_of_length-le codes h)
+pub taken_zip : (text codes path : List ℕ) → prefix_len (takes_pair text) (zip codes path) ≡ taken text codes path
+unfolding taken
+taken_zip text [] s = refl
+taken_zip text (c ∷ cs) [] = refl
+taken_zip text (c ∷ cs) (b ∷ s) = go (takes_one (decode text c) b) (taken_zip text cs s)
+  where
+    go : (t : Bool) → prefix_len (takes_pair text) (zip cs s) ≡ taken text cs s
+        → cond t (1 + prefix_len (takes_pair text) (zip cs s)) 0 ≡ (if t then suc (taken text cs s) else 0)
+    go true e = rw e (omega arith)
+    go false e = refl
 
 pub ends : (s : List ℕ) (k : ℕ) → k ≤ length s → is_empty (drop k s) ≡ eqb k (length s)
 ends s k h = go (drop k s) (length-drop k s)

@@ -342,11 +342,12 @@ pub more-alive : (f : ℕ → Bool) (alive v : Bool) (i : ℕ) → alive ≡ som
 more-alive f alive v i p q = rw (p, q, add-one)
 
 -- before the first piece, the place 0 alone is alive
-pub first_marks : (n : ℕ) (s : List ℕ) (j : ℕ) → j ≤ length s → j < suc n → get_or (set (replicate (suc n) false) 0 true) j false ≡ matches [] (take j s)
+pub first_marks : (n : ℕ) (s : List ℕ) (j : ℕ) → j ≤ length s → j < n → get_or (set (replicate n false) 0 true) j false ≡ matches [] (take j s)
 unfolding matches
-first_marks n s zero h l = refl
-first_marks n [] (suc j) h l = absurd (not-suc-le-zero h)
-first_marks n (x ∷ s) (suc j) h l = get_or-replicate n j false false (le_of_suc-le-suc l)
+first_marks zero s j h l = absurd (not-suc-le-zero l)
+first_marks (suc n) s zero h l = refl
+first_marks (suc n) [] (suc j) h l = absurd (not-suc-le-zero h)
+first_marks (suc n) (x ∷ s) (suc j) h l = get_or-replicate n j false false (le_of_suc-le-suc l)
 
 -- ---- pieces by their codes
 
@@ -361,12 +362,11 @@ module _ (f : ℕ → Piece) (cs : List ℕ) (i : ℕ) (b : i < length cs) where
   more-pieces s m h j l = after-snoc (map f (take i cs)) (f (get_or cs i 0)) s m h j l ∙ rw one_more
 
   -- no place is alive after one piece more: the pieces do not match
-  pub dead : (s : List ℕ) (m : List Bool) (alive : Bool)
+  pub dead : (s : List ℕ) (m : List Bool)
       → ((j : ℕ) → j ≤ length s → get_or m j false ≡ matches (map f (take i cs)) (take j s))
-      → alive ≡ some_up_to (after (f (get_or cs i 0)) s m) (length s) → alive ≡ false
+      → some_up_to (after (f (get_or cs i 0)) s m) (length s) ≡ false
       → false ≡ matches (map f cs) s
-  dead s m alive h a d =
-      let e : some_up_to (after (f (get_or cs i 0)) s m) (length s) ≡ false = sym a ∙ d in
+  dead s m h e =
       let split : map f cs ≡ map f (take (i + 1) cs) ++ map f (drop (i + 1) cs) =
       ap (map f) (sym (take-append-drop (i + 1) cs)) ∙ map-append f (take (i + 1) cs) (drop (i + 1) cs) in
       sym

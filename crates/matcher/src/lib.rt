@@ -1,13 +1,14 @@
 // Paths against patterns.
 #![tactic(auto)]
 
-ghost use Rattle.std.specs.Prelude.{◌≡◌, true, false, ◌&&◌, List, map, reverse, ℕ, ◌+◌, ◌-◌, ◌≤◌, ◌<◌, length, get_or, take, drop};
-ghost use Rattle.scan.specs.Bytes.{run};
-ghost use Rattle.pattern.specs.Codes.{bracketed, decode, not_close};
+ghost use Rattle.std.specs.Option.{MatchOption};
+ghost use Rattle.std.specs.Prelude.{◌≡◌, true, false, ◌&&◌, List, map, reverse, ℕ, ◌-◌, ◌≤◌, ◌<◌, length, get_or, take};
+ghost use Rattle.pattern.specs.Codes.{bracketed, decode};
 ghost use Rattle.matcher.specs.Match.{accepts, matches, some_up_to};
 ghost use Rattle.matcher.specs.Walk.{after, mark_of, path_fits, repeats_of, taken, takes_of, takes_one};
 
 // The codes of pieces: a literal is its byte; then ?, * and **; a class is the place in the text of its first byte above CLASS.
+// They stay numbers: `matched` and `write_pattern`, named in docs/DEFINITIONS.md, are lent buffers of u32, which their clauses read by `decode`.
 const ONE: u32 = 256;
 
 const STAR: u32 = 257;
@@ -15,20 +16,6 @@ const STAR: u32 = 257;
 const STAR_STAR: u32 = 258;
 
 const CLASS: u32 = 65536;
-
-// Which places of the path are alive, and whether any is.
-#[derive(Clone, Copy)]
-struct Marks {
-    places: [bool; 4096],
-    alive: bool,
-}
-
-// The same of a path of at most 255 bytes: sixteen times fewer are copied for each piece.
-#[derive(Clone, Copy)]
-struct ShortMarks {
-    places: [bool; 256],
-    alive: bool,
-}
 
 // The place in the text that the code of a class tells.
 fn place(code: u32) -> usize
@@ -40,29 +27,11 @@ fn place(code: u32) -> usize
     (code - CLASS) as usize
 }
 
-// Where the next ] stands, or the text ends.
-fn class_end(text: &[u8], at: usize) -> usize
-    ensures { result ≡ at + run not_close (drop at text.now) }
-{
-    let mut i = at;
-    while i < text.len() {
-        if text[i] == b']' {
-            return i;
-        }
-        i += 1;
-    }
-    i
-}
-
-// The bytes in the brackets of a class.
+// The bytes in the brackets of a class: up to the next ], or the end of the text.
 fn class_bytes(text: &[u8], at: usize) -> &[u8]
     ensures { result.now ≡ bracketed text.now at }
 {
-    if at <= text.len() {
-        let end = class_end(text, at);
-        return &text[at..end];
-    }
-    &text[0..0]
+    scan::span(text, at, scan::end_of(text, at, |b| b != b']'))
 }
 
 // Whether a byte is of the kind that a piece takes.
@@ -111,78 +80,44 @@ fn advance(marks: &mut [bool], text: &[u8], code: u32, path: &[u8]) -> bool
     let mut before = marks[0];
     let mut alive = mark(many, false, before, false, false);
     marks[0] = alive;
-    let mut i = 0;
-    while i < path.len() {
-        let ok = takes(text, code, path[i]);
+    for (i, b) in path.iter().enumerate() {
+        let ok = takes(text, code, *b);
         let here = marks[i + 1];
         let m = mark(many, before, here, marks[i], ok);
         marks[i + 1] = m;
         before = here;
         alive = alive | m;
-        i += 1;
     }
     alive
 }
 
-// The places alive after a piece.
-fn step(marks: [bool; 4096], text: &[u8], code: u32, path: &[u8]) -> Marks
-    requires { length path.now ≤ 4095 }
-    ensures by_index { (i : ℕ) → i ≤ length path.now → get_or result.places i false ≡ after (decode text.now code) path.now marks i }
-    ensures alive_value { result.alive ≡ some_up_to (after (decode text.now code) path.now marks) (length path.now) }
+// The places alive after a piece; none where no place of the path is.
+fn step<const N: usize>(marks: [bool; N], text: &[u8], code: u32, path: &[u8]) -> Option<[bool; N]>
+    requires room { length path.now < N }
+    requires size { N ≤ 4096 }
+    ensures { MatchOption result (some_up_to (after (decode text.now code) path.now marks.entry) (length path.now) ≡ false)
+        (λ places. (i : ℕ) → i ≤ length path.now → get_or places i false ≡ after (decode text.now code) path.now marks.entry i) }
 {
     let mut places = marks;
-    let alive = advance(&mut places, text, code, path);
-    Marks { places, alive }
+    if advance(&mut places, text, code, path) {
+        return Some(places);
+    }
+    None
 }
 
 // Whether all the pieces match the path, by the places that are alive after each.
-fn walk_marks(text: &[u8], codes: &[u32], path: &[u8]) -> bool
-    requires { length path.now ≤ 4095 }
+fn walk_marks<const N: usize>(text: &[u8], codes: &[u32], path: &[u8]) -> bool
+    requires room { length path.now < N }
+    requires size { N ≤ 4096 }
     ensures { result ≡ matches (map (decode text.now) codes.now) path.now }
 {
-    let mut marks = [false; 4096];
+    let mut marks = [false; N];
     marks[0] = true;
-    let mut k = 0;
-    while k < codes.len() {
-        let s = step(marks, text, codes[k], path);
-        if s.alive {
-            marks = s.places;
-            k += 1;
-        } else {
+    for code in codes {
+        let Some(places) = step(marks, text, *code, path) else {
             return false;
-        }
-    }
-    let n = path.len();
-    marks[n]
-}
-
-// The same for short marks.
-fn step_short(marks: [bool; 256], text: &[u8], code: u32, path: &[u8]) -> ShortMarks
-    requires { length path.now ≤ 255 }
-    ensures by_index { (i : ℕ) → i ≤ length path.now → get_or result.places i false ≡ after (decode text.now code) path.now marks i }
-    ensures alive_value { result.alive ≡ some_up_to (after (decode text.now code) path.now marks) (length path.now) }
-{
-    let mut places = marks;
-    let alive = advance(&mut places, text, code, path);
-    ShortMarks { places, alive }
-}
-
-// The same for a path of at most 255 bytes.
-fn walk_short(text: &[u8], codes: &[u32], path: &[u8]) -> bool
-    requires { length path.now ≤ 255 }
-    ensures { result ≡ matches (map (decode text.now) codes.now) path.now }
-{
-    let mut marks = [false; 256];
-    marks[0] = true;
-    let mut k = 0;
-    while k < codes.len() {
-        let s = step_short(marks, text, codes[k], path);
-        if s.alive {
-            marks = s.places;
-            k = k + 1;
-        } else {
-            return false;
-        }
+        };
+        marks = places;
     }
     let n = path.len();
     marks[n]
@@ -194,9 +129,9 @@ fn walk_places(text: &[u8], codes: &[u32], path: &[u8]) -> bool
     ensures { result ≡ matches (map (decode text.now) codes.now) path.now }
 {
     if path.len() <= 255 {
-        return walk_short(text, codes, path);
+        return walk_marks::<256>(text, codes, path);
     }
-    walk_marks(text, codes, path)
+    walk_marks::<4096>(text, codes, path)
 }
 
 // Whether a piece is no star and takes a byte.
@@ -210,36 +145,23 @@ fn takes_one(text: &[u8], code: u32, b: u8) -> bool
 fn taken_front(text: &[u8], codes: &[u32], path: &[u8]) -> usize
     ensures { result ≡ taken text.now codes.now path.now }
 {
-    let mut i = 0;
-    while i < codes.len() {
-        if path.len() <= i {
-            return i;
-        }
-        if !takes_one(text, codes[i], path[i]) {
-            return i;
-        }
-        i += 1;
-    }
-    i
+    codes
+        .iter()
+        .zip(path)
+        .take_while(|(c, b)| takes_one(text, **c, **b))
+        .count()
 }
 
 // How many pieces from the end are no stars and take the byte of the path at their place from its end.
 fn taken_back(text: &[u8], codes: &[u32], path: &[u8]) -> usize
     ensures { result ≡ taken text.now (reverse codes.now) (reverse path.now) }
 {
-    let mut i = 0;
-    while i < codes.len() {
-        if path.len() <= i {
-            return i;
-        }
-        let k = codes.len() - 1 - i;
-        let m = path.len() - 1 - i;
-        if !takes_one(text, codes[k], path[m]) {
-            return i;
-        }
-        i += 1;
-    }
-    i
+    codes
+        .iter()
+        .rev()
+        .zip(path.iter().rev())
+        .take_while(|(code, byte)| takes_one(text, **code, **byte))
+        .count()
 }
 
 // Whether a star takes all of the path.

@@ -9,6 +9,7 @@ ghost use Rattle.pattern.specs.Expansions.{is_slash};
 ghost use Rattle.pattern.specs.Codes.{decode};
 ghost use Rattle.pattern.specs.Reads.{code_of, seen_part, seen_item};
 ghost use Rattle.pattern.specs.Table.{values_of};
+ghost use Rattle.measure.specs.Walks.{Ahead, Sized};
 ghost use Rattle.sizes.specs.Sizes.{no_size, size_of, size_at, with_size, Known};
 ghost use Rattle.sizes.specs.Numbered.{part_by, value_by, one_by, item_by, pattern_by};
 
@@ -42,10 +43,7 @@ fn is_slash(p: PieceRead) -> bool
 {
     match p {
         PieceRead::Byte(b) => b == b'/',
-        PieceRead::One => false,
-        PieceRead::Star => false,
-        PieceRead::StarStar => false,
-        PieceRead::Class(_) => false,
+        _ => false,
     }
 }
 
@@ -113,6 +111,24 @@ fn literals_size(s: &[u8], at: usize, end: usize) -> Size
     }
 }
 
+// The size of all that stands in s: literals, and what is no literal by itself, of which `next` tells where it ends and `one` its size.
+fn sized<N: Fn(usize) -> usize, F: Fn(usize) -> Size>(s: &[u8], next: N, one: F) -> Size
+    requires next_calls { N.IsAlwaysCallable next }
+    requires one_calls { F.IsAlwaysCallable one }
+    requires ahead { Ahead (N.post next) s.now }
+    ensures { Sized (N.post next) (F.post one) s.now result }
+{
+    let mut at = literal_end(s, 0);
+    let mut size = literals_size(s, 0, at);
+    while at < s.len() {
+        let z = one(at);
+        let from = next(at);
+        at = literal_end(s, from);
+        size = times(size, times(z, literals_size(s, from, at)));
+    }
+    size
+}
+
 // The size of a value or an alternative.
 pub fn value_size(
     text: &[u8],
@@ -125,16 +141,11 @@ pub fn value_size(
     ensures { result ≡ (value_by text.now vars.now n sizes.now (span text.now a e)).size }
 {
     let s = span(text, a, e);
-    let mut at = literal_end(s, 0);
-    let mut size = literals_size(s, 0, at);
-    while at < s.len() {
-        let p = part_at(text, a, e, at);
-        let one = part_size(text, vars, n, sizes, p);
-        let from = part_end(s, at);
-        at = literal_end(s, from);
-        size = times(size, times(one, literals_size(s, from, at)));
-    }
-    size
+    sized(
+        s,
+        |i| part_end(s, i),
+        |i| part_size(text, vars, n, sizes, part_at(text, a, e, i)),
+    )
 }
 
 // The size of the variable w by the sizes of those before it.
@@ -144,12 +155,10 @@ fn variable_size(text: &[u8], vars: &[usize], w: usize, sizes: &[usize; 132]) ->
 {
     let m = least(16, cell(vars, 64 + w));
     let mut size = no_size();
-    let mut k = 0;
-    while k < m {
+    for k in 0..m {
         let j = 96 + 2 * (16 * w + k);
         let one = value_size(text, vars, w, sizes, cell(vars, j), cell(vars, j + 1));
         size = plus(size, one);
-        k += 1;
     }
     size
 }
@@ -161,11 +170,9 @@ pub fn sizes_of(text: &[u8], vars: &[usize], n: usize) -> Sizes
     let mut table = [0usize; 132];
     put_size(&mut table, 0, no_size());
     let top = least(32, n);
-    let mut w = 0;
-    while w < top {
+    for w in 0..top {
         let size = variable_size(text, vars, w, &table);
         put_size(&mut table, w + 1, size);
-        w += 1;
     }
     Sizes { table }
 }
@@ -216,14 +223,9 @@ pub fn pattern_size(
     ensures { result ≡ (pattern_by text.now vars.now n sizes.now (span text.now a e)).size }
 {
     let s = span(text, a, e);
-    let mut at = literal_end(s, 0);
-    let mut size = literals_size(s, 0, at);
-    while at < s.len() {
-        let i = item_at(text, a, e, at);
-        let one = item_size(text, vars, n, sizes, i);
-        let from = item_end(s, at);
-        at = literal_end(s, from);
-        size = times(size, times(one, literals_size(s, from, at)));
-    }
-    size
+    sized(
+        s,
+        |i| item_end(s, i),
+        |i| item_size(text, vars, n, sizes, item_at(text, a, e, i)),
+    )
 }

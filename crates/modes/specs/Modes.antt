@@ -1,5 +1,5 @@
 -- The execute modes, as one table.
-use Rattle.std.specs.Prelude.{ℕ, suc, List, [], ◌∷◌, Bool, true, false, ◌&&◌, eqb}
+use Rattle.std.specs.Prelude.{ℕ, suc, List, [], ◌∷◌, Bool, true, false, ◌&&◌, eqb, Option, None, Some}
 use Prim.Native.String.{String}
 use Rattle.std.specs.Bool.{beq}
 use Rattle.scan.specs.Bytes.{bytes, same}
@@ -10,8 +10,6 @@ use Rattle.modes.specs.declared.Fallback.TheVariants as fallback
 use Rattle.modes.specs.declared.Mode.{Mode}
 use Rattle.modes.specs.declared.Execute.{Execute}
 use Rattle.modes.specs.declared.Execute.TheVariants.{NotAsked, Denied, Conflict, ByMode}
-use Rattle.modes.specs.declared.Transition.{Transition}
-use Rattle.modes.specs.declared.Transition.TheVariants as transition
 
 -- a row of the table: the mode as written, and what it means
 pub record Row : Type 0 where
@@ -42,14 +40,10 @@ modes =
     ∷ row "CUx" kind.Child fallback.Unconfined true
     ∷ []
 
--- what stands beyond a table's end
-abbrev pub no_row : Row
-no_row = row "" kind.Unconfined fallback.Absent false
-
 -- the mode that a word names in a table
-unfoldable pub mode_in : List Row → List ℕ → Transition
-mode_in [] w = transition.Absent
-mode_in (r ∷ rs) w = elim (same w (bytes r.word)) [ true ↦ transition.ByMode r.mode | false ↦ mode_in rs w ]
+unfoldable pub mode_in : List Row → List ℕ → Option Mode
+mode_in [] w = None
+mode_in (r ∷ rs) w = elim (same w (bytes r.word)) [ true ↦ Some r.mode | false ↦ mode_in rs w ]
 
 -- two modes are the same when kind, fallback and scrubbing are, each told by a number
 abbrev pub kind_number : Kind → ℕ

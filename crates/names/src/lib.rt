@@ -1,8 +1,8 @@
 // The form of the names of profiles and targets, and of variables.
 #![tactic(auto)]
 
-ghost use Rattle.std.specs.Prelude.{◌≡◌, ◌+◌, drop};
-ghost use Rattle.scan.specs.Bytes.{every, letter, run};
+ghost use Rattle.std.specs.Prelude.{◌≡◌};
+ghost use Rattle.scan.specs.Bytes.{every, letter};
 ghost use Rattle.names.specs.Names.{name_byte, name_first, name_form, name_start, variable_byte, variable_fault, variable_form};
 
 use scan::{holds_byte, is_between};
@@ -41,8 +41,8 @@ fn is_name_byte(b: u8, quoted: bool) -> bool
 fn begins_name(name: &[u8]) -> bool
     ensures { result ≡ name_start name.now }
 {
-    if 0 < name.len() {
-        return is_name_first(name[0]);
+    if let [first, ..] = name {
+        return is_name_first(*first);
     }
     false
 }
@@ -51,15 +51,7 @@ fn begins_name(name: &[u8]) -> bool
 fn are_name_bytes(name: &[u8], quoted: bool) -> bool
     ensures { result ≡ every (name_byte quoted) name.now }
 {
-    let mut i = 0;
-    while i < name.len() {
-        if is_name_byte(name[i], quoted) {
-            i += 1;
-        } else {
-            return false;
-        }
-    }
-    true
+    name.iter().all(|b| is_name_byte(*b, quoted))
 }
 
 // Whether these bytes have the form of a name of a profile or a target.
@@ -78,30 +70,12 @@ fn is_variable_byte(b: u8) -> bool
     is_letter(b) | is_between(b'0', b'9', b) | (b == b'_')
 }
 
-// Where the letters, digits and underscores at a place end.
-fn variable_bytes_end(s: &[u8], at: usize) -> usize
-    ensures { result ≡ at + run variable_byte (drop at s.now) }
-{
-    let mut i = at;
-    while i < s.len() {
-        if is_variable_byte(s[i]) {
-            i += 1;
-        } else {
-            return i;
-        }
-    }
-    i
-}
-
 // Whether s has the form of a variable's name.
 fn variable_form(s: &[u8]) -> bool
     ensures { result ≡ variable_form s.now }
 {
-    if s.len() == 0 {
-        return false;
-    }
-    if is_letter(s[0]) {
-        return variable_bytes_end(s, 1) == s.len();
+    if let [first, rest @ ..] = s {
+        return is_letter(*first) & rest.iter().all(|b| is_variable_byte(*b));
     }
     false
 }

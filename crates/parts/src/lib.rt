@@ -65,7 +65,7 @@ fn use_at(text: &[u8], a: usize, e: usize, at: usize) -> PartRead
 fn is_lone(b: u8) -> bool
     ensures { result ≡ lone b }
 {
-    (b == b']') | (b == b'{') | (b == b'}') | (b == b'^')
+    matches!(b, b']' | b'{' | b'}' | b'^')
 }
 
 // The part that b makes by itself.
@@ -114,12 +114,8 @@ pub fn piece_code(p: PieceRead) -> u32
         PieceRead::One => 256,
         PieceRead::Star => 257,
         PieceRead::StarStar => 258,
-        PieceRead::Class(x) => {
-            if x < 4294901760 {
-                return 65536 + x as u32;
-            }
-            0
-        }
+        PieceRead::Class(x) if x < 4294901760 => 65536 + x as u32,
+        PieceRead::Class(_) => 0,
     }
 }
 

@@ -16,10 +16,9 @@ use borrow.Author.Tests.{eq-eqb, ne_eqb}
 use Rattle.scan.specs.Bytes.{bytes, same, holds, some, every, run}
 use Rattle.perms.specs.Sets.{has, perms}
 use Rattle.modes.specs.Modes.{Row, modes, mode_in}
-use Rattle.perms_word.specs.Words.{letters, perm_letter, other, carried, before_letters, mode_part, named, with_mode, word_of}
+use Rattle.perms_word.specs.Words.{letters, perm_letter, other, carried, before_letters, carries, mode_part, named, with_mode, word_of}
 use Rattle.perms.specs.declared.Perms.{Perms}
-use Rattle.modes.specs.declared.Transition.TheVariants.{Absent}
-use Rattle.perms_word.specs.declared.Word.TheVariants.{Carries, Bad}
+use Rattle.std.proofs.Common.{None}
 use Rattle.scan.proofs.Bools.{and_left, and_right}
 use Rattle.perms.proofs.Laws.{has-or, has-set, set-lt, ext, or-associative}
 use Rattle.scan.proofs.Laws.{run-le, run_inside, every-from, same-eq}
@@ -71,17 +70,17 @@ carried_other b r w a m l k x = rw (no 114 r, no 119 w, no 97 a, no 109 m, no 10
 
 -- the mode part: none, a bare x, another one in a rule that denies, one in a rule that allows
 module _ (p : Perms) where
-  pub mode-none : (deny : Bool) (m : List ℕ) → length m ≡ 0 → with_mode deny p m ≡ Carries p Absent
+  pub mode-none : (deny : Bool) (m : List ℕ) → length m ≡ 0 → with_mode deny p m ≡ carries p None
   unfolding with_mode
   mode-none deny [] e = refl
   mode-none deny (b ∷ m) e = absurd (omega arith)
 
-  pub mode-bare : (m : List ℕ) → (length m ≡ 0 → ⊥) → same m (bytes "x") ≡ true → with_mode true p m ≡ Carries p Absent
+  pub mode-bare : (m : List ℕ) → (length m ≡ 0 → ⊥) → same m (bytes "x") ≡ true → with_mode true p m ≡ carries p None
   unfolding with_mode
   mode-bare [] n e = refl
   mode-bare (b ∷ m) n e = rw (e, with_mode)
 
-  pub mode-denied : (m : List ℕ) → (length m ≡ 0 → ⊥) → same m (bytes "x") ≡ false → with_mode true p m ≡ Bad
+  pub mode-denied : (m : List ℕ) → (length m ≡ 0 → ⊥) → same m (bytes "x") ≡ false → with_mode true p m ≡ None
   unfolding with_mode
   mode-denied [] n e = absurd (n refl)
   mode-denied (b ∷ m) n e = rw (e, with_mode)
@@ -92,7 +91,7 @@ module _ (p : Perms) where
   mode-allowed (b ∷ m) n = refl
 
 -- the word: empty, refused by a rule on its letters, or told by its mode part
-pub word-empty : (deny : Bool) (w : List ℕ) → length w ≡ 0 → word_of deny w ≡ Bad
+pub word-empty : (deny : Bool) (w : List ℕ) → length w ≡ 0 → word_of deny w ≡ None
 unfolding word_of
 word-empty deny [] e = refl
 word-empty deny (b ∷ w) e = absurd (omega arith)
@@ -100,7 +99,7 @@ word-empty deny (b ∷ w) e = absurd (omega arith)
 abbrev both : List ℕ → Bool
 both w = holds (code "w") w && holds (code "a") w
 
-word-refused : (deny : Bool) (w : List ℕ) → both w ≡ true → word_of deny w ≡ Bad
+word-refused : (deny : Bool) (w : List ℕ) → both w ≡ true → word_of deny w ≡ None
 unfolding word_of
 word-refused deny [] e = refl
 word-refused deny (b ∷ w) e = rw (e, word_of)
@@ -153,12 +152,12 @@ lettered m v h k = go (same m v) refl
     go true q = absurd (false≢true (sym (ap (λ (l : List ℕ). not (some perm_letter l)) (sym (same-eq m v q)) ∙ ap not h) ∙ k))
     go false q = refl
 
-mode-letter : (rs : List Row) (m : List ℕ) → every no_letter rs ≡ true → some perm_letter m ≡ true → mode_in rs m ≡ Absent
+mode-letter : (rs : List Row) (m : List ℕ) → every no_letter rs ≡ true → some perm_letter m ≡ true → mode_in rs m ≡ None
 unfolding mode_in every no_letter
 mode-letter [] m e h = refl
 mode-letter (r ∷ rs) m e h = rw (lettered m (bytes r.word) h (and_left (no_letter r) (every no_letter rs) e), mode_in) (mode-letter rs m (and_right (no_letter r) (every no_letter rs) e) h)
 
-no_mode : (p : Perms) (deny : Bool) (m : List ℕ) → some perm_letter m ≡ true → with_mode deny p m ≡ Bad
+no_mode : (p : Perms) (deny : Bool) (m : List ℕ) → some perm_letter m ≡ true → with_mode deny p m ≡ None
 unfolding with_mode some bytes letters
 no_mode p deny [] h = absurd (false≢true h)
 no_mode p true (b ∷ m) h = rw (lettered (b ∷ m) (bytes "x") h refl, with_mode)
@@ -175,13 +174,13 @@ module _ (deny : Bool) (w : List ℕ) (a e : ℕ) (starts : a ≡ 0 + run perm_l
   after : every perm_letter (drop (run other (drop a w)) (drop a w)) ≡ eqb (e + run perm_letter (drop e w)) (length w)
   after = rw (drop-drop, ← ends) (every-from perm_letter w e inside)
 
-  pub word-both : {p q : Bool} → p ≡ holds (code "w") w → q ≡ holds (code "a") w → (p && q) ≡ true → word_of deny w ≡ Bad
+  pub word-both : {p q : Bool} → p ≡ holds (code "w") w → q ≡ holds (code "a") w → (p && q) ≡ true → word_of deny w ≡ None
   word-both f g h = word-refused deny w (rw (← f, ← g) h)
 
-  pub word-tail : (length w ≡ 0 → ⊥) → (e + run perm_letter (drop e w) ≡ length w → ⊥) → word_of deny w ≡ Bad
+  pub word-tail : (length w ≡ 0 → ⊥) → (e + run perm_letter (drop e w) ≡ length w → ⊥) → word_of deny w ≡ None
   word-tail n h = go (both w) refl
     where
-      go : (x : Bool) → both w ≡ x → word_of deny w ≡ Bad
+      go : (x : Bool) → both w ≡ x → word_of deny w ≡ None
       go true q = word-refused deny w q
       go false q = word_good deny w n q ∙ no_mode (perms (carried w)) deny (mode_part w) (rw (← start-at) (before-letter (drop a w) (after ∙ ne_eqb _ _ h)))
 

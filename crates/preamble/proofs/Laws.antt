@@ -5,8 +5,7 @@ use Prim.Native.Char.{code}
 use mathlib.Core.Path.{◌≡◌, refl, sym, ap, ap₂, ◌∙◌}
 use mathlib.Core.List.{List, [], ◌∷◌, ◌++◌, append-nil, append_assoc}
 use mathlib.Core.Bool.{Bool, true, false, not, ◌||◌, false≢true}
-use lib.ListN.{length, get_or, take, drop, length-take, length-drop, length-append, drop_of_length-le}
-use lib.Seq.{drop-cons}
+use lib.ListN.{length, take, drop, length-take, length-drop, length-append}
 use lib.Dec.{eqb, leb}
 use borrow.Author.Tests.{ne_eqb, le-leb, lt-leb, leb-true, leb-false, eqb-false}
 use native.Mathlib.Omega.{arith}
@@ -15,7 +14,7 @@ use Rattle.scan.proofs.Laws.{same-eq, same_self}
 use Rattle.names.specs.Names.{variable_fault}
 use Rattle.text.specs.Reading.{Reading, Read, Refused, ◌>>=◌, refuse_if, judged}
 use Rattle.tokens.specs.Tokens.{Token, Found, no_stop, token_at, wanted}
-use Rattle.blanks.specs.Blanks.{hash, standing, stands_at}
+use Rattle.blanks.specs.Blanks.{standing, stands_at}
 use Rattle.tokens.proofs.Laws.{seen-found}
 use Rattle.text.specs.Places.{place, refused_by}
 use Rattle.tokens.specs.Places.{seen, stop_of, token_of}
@@ -28,27 +27,20 @@ use Rattle.pattern.specs.Table.{bytes_at, variables, env, number_of, values_of a
 use Rattle.pattern.proofs.Laws.{number-le, number-set}
 use Rattle.faults.proofs.Laws.{empty-yes, empty-no}
 use Rattle.preamble.specs.declared.Opened.{Opened}
-use Rattle.preamble.specs.declared.ValuesRead.{ValuesRead}
-use Rattle.preamble.specs.declared.PreambleRead.{PreambleRead}
-use Rattle.preamble.specs.declared.OperatorRead.{OperatorRead}
-use Rattle.preamble.specs.declared.OperatorRead.TheVariants as operator
+use Rattle.std.proofs.Common.{Option, Some, None, Ok, Err}
+use Rattle.preamble.specs.declared.Values.{Values as ValuesRead}
+use Rattle.preamble.specs.declared.Preamble.{Preamble as PreambleRead}
+use Rattle.preamble.specs.declared.Operator.{Operator as OperatorRead}
 use Rattle.text.specs.declared.Stop.{Stop}
-use Rattle.text.specs.declared.Place.{Place}
 use Rattle.variables.specs.Added.{Added, name_set, room, value_set}
 use Rattle.variables.proofs.Laws.{added_none, added-both, added-before, added-room, length-values, name_set_lem, value_set_lem}
 use Rattle.preamble.specs.Variables.{Assignment, values_of, set_before, extended, assigned, final_sets}
 use Rattle.preamble.specs.Preamble.{Values, Operator, Assigned, Preamble, after_name, assignment_at, in_line_at, in_name, line_ends, name_fault, operator_from, preamble_at, assignment_then, values_at, value_then}
-use Rattle.preamble.specs.Places.{after, after_fault, after_operator, after_values, assigned_of, given_to, next_fault, Opening, preamble_of, seen_operator, seen_preamble, Upto, Valued, State}
+use Rattle.preamble.specs.Places.{after, after_fault, after_operator, after_values, assigned_of, given_to, next_fault, Opening, preamble_of, seen_operator, seen_preamble, Stored, Upto, State}
 
 -- ---- lines and operators
 
 module _ (s : List ℕ) (i : ℕ) where
-  pub ends-in : i < length s → line_ends (drop i s) ≡ (eqb (get_or s i 0) (code "\n") || eqb (get_or s i 0) hash)
-  ends-in h = rw (drop-cons s i 0)
-
-  pub ends-end : length s ≤ i → line_ends (drop i s) ≡ true
-  ends-end h = rw (drop_of_length-le s h)
-
   -- two bytes stand there
   pub two-fit : (w : List ℕ) → length w ≡ 2 → same (take 2 (drop i s)) w ≡ true → i + 2 ≤ length s
   two-fit w h e = omega (arith, ap length (same-eq (take 2 (drop i s)) w e), length-take 2 (drop i s), length-drop i s)
@@ -57,7 +49,7 @@ module _ (s : List ℕ) (i : ℕ) where
 pub no-operator : (s : List ℕ) (r : tokens.Read) → (wanted (seen s r) >>= λ t. Refused 4 t.start) ≡ refused_by {A = Operator} (stop_of r)
 unfolding seen stop_of
 no-operator s (read.Found t) = refl
-no-operator s (read.Stopped n p) = refl
+no-operator s (read.Stopped stop) = refl
 no-operator s (read.End p) = refl
 
 -- ---- variables of a table
@@ -271,25 +263,19 @@ upto-start text old w at = record { values = []; added = added_none text w old; 
 
 -- what stands at p, next in the line
 module _ {text old : List ℕ} {w at : ℕ} {new : List ℕ} {next : ℕ} {given : Bool} (u : Upto text old w at new next given) {p : ℕ} (i : p ≡ in_line_at text next) where
-  pub upto-end : line_ends (drop p text) ≡ true → (stop : Stop) →
-      Valued text old new w (given_to text old w at) (record { refused = false; stop = stop; given = given; next = place p })
+  pub upto-end : line_ends (drop p text) ≡ true → Stored text old new w (given_to text old w at) (record { given = given; next = place p })
   unfolding after
-  upto-end e stop =
+  upto-end e =
       let q : given_to text old w at ≡ Read (record { values = u.values; next = p }) =
       u.rest ∙ ap (after u.values) (values-end (variables text old w) text next (room new w) (rw (← i) e)) ∙ rw (append-nil, ← i) in
-      record { refusal = λ z. absurd (false≢true z); stored = λ _. record { values = u.values; read = q; added = u.added; some = u.some } }
-
-  refused : (stop : Stop) → given_to text old w at ≡ refused_by stop → (given : Bool) (next : Place) →
-      Valued text old new w (given_to text old w at) (record { refused = true; stop = stop; given = given; next = next })
-  refused stop e given next = record { refusal = λ _. e; stored = λ z. absurd (false≢true (sym z)) }
+      record { values = u.values; read = q; added = u.added; some = u.some }
 
   module _ (r : tokens.Read) (n : seen text r ≡ token_at no_stop text p) (e : line_ends (drop p text) ≡ false) where
-    pub upto-stop : wanted (seen text r) ≡ refused_by (stop_of r) → (stop : Stop) → stop ≡ stop_of r → (given : Bool) (next : Place) →
-        Valued text old new w (given_to text old w at) (record { refused = true; stop = stop; given = given; next = next })
+    pub upto-stop : wanted (seen text r) ≡ refused_by (stop_of r) → (stop : Stop) → stop ≡ stop_of r → given_to text old w at ≡ refused_by stop
     unfolding after
     upto-stop z stop q =
         let k : wanted (token_at no_stop text (in_line_at text next)) ≡ refused_by stop = rw (← i, ← n, q) z in
-        refused stop (u.rest ∙ ap (after u.values) (values-stop (variables text old w) text next (rw (← i) e) (room new w) stop.number stop.place.0 k))
+        u.rest ∙ ap (after u.values) (values-stop (variables text old w) text next (rw (← i) e) (room new w) stop.number stop.place.0 k)
 
     module _ (t : code.Token) (g : r ≡ read.Found t) (h : w < 32) where
       abbrev content : List ℕ
@@ -305,14 +291,12 @@ module _ {text old : List ℕ} {w at : ℕ} {new : List ℕ} {next : ℕ} {given
         fault-here : f ≡ next_fault (room new w) (variables text old w) content
         fault-here = k ∙ ap (λ (vs : List Variable). next_fault (room new w) vs content) same-before
 
-        pub upto-fault : (f ≡ 0 → ⊥) → (given : Bool) (next : Place) →
-            Valued text old new w (given_to text old w at) (record { refused = true; stop = record { number = f; place = t.start }; given = given; next = next })
+        pub upto-fault : (f ≡ 0 → ⊥) → given_to text old w at ≡ refused_by (record { number = f; place = t.start })
         unfolding after
         upto-fault z =
-            refused (record { number = f; place = t.start })
-            (u.rest
+            u.rest
             ∙ ap (after u.values) (values-fault (variables text old w) text next (rw (← i) e) (token_of text t) token (room new w) (λ j. z (fault-here ∙ j)))
-            ∙ ap (λ (m : ℕ). Refused m t.start.0) (sym fault-here))
+            ∙ ap (λ (m : ℕ). Refused m t.start.0) (sym fault-here)
 
         module _ (z : f ≡ 0) {new' : List ℕ} (s : (length new ≡ 1120) × (new' ≡ value_set new w t.from.0 t.end.0)) where
           free : 0 < room new w
@@ -352,8 +336,7 @@ module _ (vs : List Variable) (s n : List ℕ) (start sign : ℕ) (op : Operator
       go zero h = absurd (h refl)
       go (suc k) h = refl
 
-  module _ {f : ℕ} (k : f ≡ name_fault vs op.adds n) (e : f ≡ 0) {new : List ℕ} {r : Opened} (o : Opening s new vs op.adds n r) {new' : List ℕ} {v : ValuesRead}
-      (d : Valued s new new' r.w (given_to s new r.w op.next) v) where
+  module _ {f : ℕ} (k : f ≡ name_fault vs op.adds n) (e : f ≡ 0) {new : List ℕ} {r : Opened} (o : Opening s new vs op.adds n r) where
     abbrev then_values : Reading Values → Reading State
     then_values x = assigned_of vs (x >>= after_values n op.adds sign)
 
@@ -365,16 +348,16 @@ module _ (vs : List Variable) (s n : List ℕ) (start sign : ℕ) (op : Operator
         ap (λ (i : ℕ). assigned_of vs (judged_here i)) (sym k ∙ e)
         ∙ ap₂ (λ (i : ℕ) (us : List Variable). then_values (values_at i us s op.next)) j o.before
 
-    pub values-refused : v.refused ≡ true → assigned_of vs (after_operator vs s n start sign op) ≡ refused_by v.stop
+    pub values-refused : (stop : Stop) → given_to s new r.w op.next ≡ refused_by stop → assigned_of vs (after_operator vs s n start sign op) ≡ refused_by stop
     unfolding assigned_of
-    values-refused q = operator-values ∙ ap then_values (d.refusal q)
+    values-refused stop q = operator-values ∙ ap then_values q
 
-    module _ (q : v.refused ≡ false) where
+    module _ {new' : List ℕ} {v : ValuesRead} (d : Stored s new new' r.w (given_to s new r.w op.next) v) where
       pub values-none : v.given ≡ false → assigned_of vs (after_operator vs s n start sign op) ≡ Refused 4 sign
       unfolding assigned_of
       values-none g =
-          let z : eqb (length (d.stored q).values) 0 ≡ true = go (eqb (length (d.stored q).values) 0) (sym (d.stored q).some ∙ g) in
-          operator-values ∙ ap then_values (d.stored q).read ∙ rw z
+          let z : eqb (length d.values) 0 ≡ true = go (eqb (length d.values) 0) (sym d.some ∙ g) in
+          operator-values ∙ ap then_values d.read ∙ rw z
         where
           go : (x : Bool) → not x ≡ false → x ≡ true
           go true h = refl
@@ -383,29 +366,28 @@ module _ (vs : List Variable) (s n : List ℕ) (start sign : ℕ) (op : Operator
       pub values-some : v.given ≡ true → assigned_of vs (after_operator vs s n start sign op) ≡ Read (record { variables = env s new' r.count; next = v.next.0 })
       unfolding assigned_of
       values-some g =
-          let t = d.stored q in
-          let z : eqb (length t.values) 0 ≡ false = go (eqb (length t.values) 0) (sym t.some ∙ g) in
-          let x : assigned vs (record { name = n; adds = op.adds; values = t.values }) ≡ env s new' r.count =
-          o.result t.values
-          ∙ sym (added-extended s new n new' t.values r.w t.added (min 32 r.count) (omega arith) o.number) in
-          operator-values ∙ ap then_values t.read ∙ rw (z, x)
+          let z : eqb (length d.values) 0 ≡ false = go (eqb (length d.values) 0) (sym d.some ∙ g) in
+          let x : assigned vs (record { name = n; adds = op.adds; values = d.values }) ≡ env s new' r.count =
+          o.result d.values
+          ∙ sym (added-extended s new n new' d.values r.w d.added (min 32 r.count) (omega arith) o.number) in
+          operator-values ∙ ap then_values d.read ∙ rw (z, x)
         where
           go : (x : Bool) → not x ≡ true → x ≡ false
           go true h = absurd (false≢true h)
           go false h = refl
 
 -- an operator after a name, or none
-module _ (vs : List Variable) (s n : List ℕ) (start end sign : ℕ) (o : OperatorRead) (e : sign ≡ in_line_at s (end + 1))
+module _ (vs : List Variable) (s n : List ℕ) (start end sign : ℕ) (o : Option OperatorRead) (e : sign ≡ in_line_at s (end + 1))
     (q : (after : ℕ) → seen_operator s after o ≡ operator_from s after sign) where
   name-operator : after_name vs s n start end ≡ (seen_operator s (end + 1) o >>= after_operator vs s n start sign)
   unfolding after_name after_operator after_fault
   name-operator = rw (← e, ← q (end + 1))
 
-  pub name-found : (adds : Bool) (next : Place) → o ≡ operator.Found adds next → after_name vs s n start end ≡ after_operator vs s n start sign (record { adds = adds; next = next.0 })
+  pub name-found : (x : OperatorRead) → o ≡ Some x → after_name vs s n start end ≡ after_operator vs s n start sign (record { adds = x.adds; next = x.next.0 })
   unfolding seen_operator
-  name-found adds next h = name-operator ∙ rw h
+  name-found x h = name-operator ∙ rw h
 
-  pub name-missing : o ≡ operator.Missing → (r : tokens.Read) → seen s r ≡ token_at no_stop s (end + 1) → assigned_of vs (after_name vs s n start end) ≡ refused_by (stop_of r)
+  pub name-missing : o ≡ None → (r : tokens.Read) → seen s r ≡ token_at no_stop s (end + 1) → assigned_of vs (after_name vs s n start end) ≡ refused_by (stop_of r)
   unfolding seen_operator assigned_of
   name-missing h r t = rw (name-operator, h, ← t, no-operator s r)
 
@@ -425,15 +407,6 @@ module _ (vs : List Variable) (s : List ℕ) (at first end : ℕ) (p : first ≡
     assignment-good z g = g ∙ rw (← p, ← q, b, ← k, z)
 
 -- ---- the preamble
-
-module _ (s t : List ℕ) (r : PreambleRead) where
-  pub seen-refused : r.refused ≡ true → seen_preamble s t r ≡ refused_by r.stop
-  unfolding seen_preamble
-  seen-refused e = rw e
-
-  pub seen_read : r.refused ≡ false → seen_preamble s t r ≡ Read (record { variables = env s t r.count; next = r.next.0 })
-  unfolding seen_preamble
-  seen_read e = rw e
 
 module _ (vs : List Variable) (s : List ℕ) (at : ℕ) where
   pub preamble-none : (left : ℕ) → stands_at (bytes "@{") s at ≡ false → preamble_at left vs s at ≡ Read (record { assignments = []; variables = vs; next = at })
@@ -480,24 +453,27 @@ module _ (vs : List Variable) (s : List ℕ) (at : ℕ) where
 
 -- a turn of reading assignments, at whose end the table is t'
 module _ (s t : List ℕ) (n at left : ℕ) {whole : Reading State} (inv : preamble_of (preamble_at left (env s t n) s at) ≡ whole)
-    (e : stands_at (bytes "@{") s at ≡ true) (t' : List ℕ) (r : PreambleRead)
-    (q : seen_preamble s t' r ≡ assigned_of (env s t n) (assignment_at (env s t n) s at)) where
-  pub turn-refused : r.refused ≡ true → seen_preamble s t' r ≡ whole
-  turn-refused h =
-      let f = seen-refused s t' r h in
-      f ∙ sym (preamble-refused (env s t n) s at e left r.stop.number r.stop.place.0 (sym q ∙ f)) ∙ inv
+    (e : stands_at (bytes "@{") s at ≡ true) (t' : List ℕ) where
+  abbrev here_of : Reading State
+  here_of = assigned_of (env s t n) (assignment_at (env s t n) s at)
 
-  module _ (h : r.refused ≡ false) where
+  pub turn-refused : (stop : Stop) → seen_preamble s t' (Err stop) ≡ here_of → seen_preamble s t' (Err stop) ≡ whole
+  unfolding seen_preamble
+  turn-refused stop q = sym (preamble-refused (env s t n) s at e left stop.number stop.place.0 (sym q)) ∙ inv
+
+  module _ (r : PreambleRead) (q : seen_preamble s t' (Ok r) ≡ here_of) where
     abbrev state : State
     state = record { variables = env s t' r.count; next = r.next.0 }
 
     pub turn-full : left ≡ 0 → {p : ℕ} → p ≡ standing s at → Refused 9 p ≡ whole
-    turn-full z i = rw (i, ← preamble-full (env s t n) s at e state (sym q ∙ seen_read s t' r h)) (rw z at inv)
+    unfolding seen_preamble
+    turn-full z i = rw (i, ← preamble-full (env s t n) s at e state (sym q)) (rw z at inv)
 
     pub turn_more : (left ≡ 0 → ⊥) → preamble_of (preamble_at (left - 1) (env s t' r.count) s r.next.0) ≡ whole
+    unfolding seen_preamble
     turn_more z =
         let k : left ≡ suc (left - 1) = omega arith in
-        sym (preamble-more (env s t n) s at e state (left - 1) (sym q ∙ seen_read s t' r h)) ∙ (rw k at inv)
+        sym (preamble-more (env s t n) s at e state (left - 1) (sym q)) ∙ (rw k at inv)
 
 -- the variables of a preamble are those that its assignments set
 pub preamble-sets : (left : ℕ) (vs : List Variable) (s : List ℕ) (at : ℕ) (p : Preamble) → preamble_at left vs s at ≡ Read p → p.variables ≡ final_sets vs p.assignments

@@ -1,5 +1,5 @@
 -- What the code's operators, values and preambles mean over the text.
-use Rattle.std.specs.Prelude.{ℕ, zero, suc, ◌+◌, ◌-◌, ◌<◌, min, ◌≡◌, List, ◌++◌, Bool, true, false, not, length, eqb, if◌then◌else◌}
+use Rattle.std.specs.Prelude.{ℕ, zero, suc, ◌-◌, ◌<◌, min, ◌≡◌, List, ◌++◌, Bool, not, length, eqb, if◌then◌else◌, Option, Some, None, Result, Ok, Err}
 use Rattle.scan.specs.Bytes.{is_empty}
 use Rattle.text.specs.Reading.{Reading, Read, Refused, ◌>>=◌, refuse_if, judged}
 use Rattle.text.specs.Places.{refused_by}
@@ -9,17 +9,17 @@ use Rattle.pattern.specs.Faults.{value_fault}
 use Rattle.pattern.specs.Table.{env, number_of, variables, values_of as held_values}
 use Rattle.variables.specs.Added.{Added, room}
 use Rattle.preamble.specs.Variables.{assigned, extended, values_of}
+use Rattle.text.specs.declared.Stop.{Stop}
 use Rattle.preamble.specs.Preamble.{Values, Operator, Assigned, Preamble, name_fault, usable, values_at}
-use Rattle.preamble.specs.declared.OperatorRead.{OperatorRead}
-use Rattle.preamble.specs.declared.OperatorRead.TheVariants as operator
-use Rattle.preamble.specs.declared.ValuesRead.{ValuesRead}
+use Rattle.preamble.specs.declared.Operator.{Operator as OperatorRead}
+use Rattle.preamble.specs.declared.Values.{Values as ValuesRead}
 use Rattle.preamble.specs.declared.Opened.{Opened}
-use Rattle.preamble.specs.declared.PreambleRead.{PreambleRead}
+use Rattle.preamble.specs.declared.Preamble.{Preamble as PreambleRead}
 
 -- an operator; where there is none, the refusal of the token that stands after the name
-unfoldable pub seen_operator : List ℕ → (after : ℕ) → OperatorRead → Reading Operator
-seen_operator s after (operator.Found a n) = Read (record { adds = a; next = n.0 })
-seen_operator s after operator.Missing = do
+unfoldable pub seen_operator : List ℕ → (after : ℕ) → Option OperatorRead → Reading Operator
+seen_operator s after (Some o) = Read (record { adds = o.adds; next = o.next.0 })
+seen_operator s after None = do
   t ← wanted (token_at no_stop s after)
   Refused 4 t.start
 
@@ -54,9 +54,9 @@ pub record Stored (text old new : List ℕ) (w : ℕ) (x : Reading Values) (r : 
   pub some : r.given ≡ not (eqb (length values) 0)
 
 -- the values of variable w, or their refusal
-pub record Valued (text old new : List ℕ) (w : ℕ) (x : Reading Values) (r : ValuesRead) : Type 0 where
-  pub refusal : r.refused ≡ true → x ≡ refused_by r.stop
-  pub stored : r.refused ≡ false → Stored text old new w x r
+abbrev pub Valued : (text old new : List ℕ) → (w : ℕ) → Reading Values → Result ValuesRead Stop → Type 0
+Valued text old new w x (Ok r) = Stored text old new w x r
+Valued text old new w x (Err stop) = x ≡ refused_by stop
 
 -- ---- assignments
 
@@ -91,8 +91,9 @@ pub record State : Type 0 where
   pub variables : List Variable
   pub next : ℕ
 
-unfoldable pub seen_preamble : (text vars : List ℕ) → PreambleRead → Reading State
-seen_preamble s t r = if r.refused then refused_by r.stop else Read (record { variables = env s t r.count; next = r.next.0 })
+unfoldable pub seen_preamble : (text vars : List ℕ) → Result PreambleRead Stop → Reading State
+seen_preamble s t (Ok r) = Read (record { variables = env s t r.count; next = r.next.0 })
+seen_preamble s t (Err stop) = refused_by stop
 
 unfoldable pub assigned_of : List Variable → Reading Assigned → Reading State
 assigned_of vs (Read a) = Read (record { variables = assigned vs a.assignment; next = a.next })

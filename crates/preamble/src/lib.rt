@@ -1,10 +1,9 @@
 // The assignments in front of the profiles.
 #![tactic(auto)]
 
-ghost use Rattle.std.specs.Prelude.{◌≡◌, List, [], true, ℕ, ◌+◌, ◌≤◌, ◌<◌, length, drop};
+ghost use Rattle.std.specs.Prelude.{◌≡◌, [], true, ℕ, ◌+◌, ◌≤◌, ◌<◌, length, drop, IfOk};
 ghost use Rattle.scan.specs.Bytes.{bytes, run, span};
 ghost use Rattle.blanks.specs.Blanks.{in_line, stands_at};
-ghost use Rattle.text.specs.Reading.{Refused};
 ghost use Rattle.pattern.specs.Table.{env};
 ghost use Rattle.variables.specs.Added.{room};
 ghost use Rattle.preamble.specs.Preamble.{after_name, assignment_at, in_line_at, in_name, line_ends, name_fault, operator_from, preamble_at};
@@ -13,23 +12,21 @@ ghost use Rattle.preamble.specs.Places.{after_operator, assigned_of, given_to, n
 use blanks::{standing_at, stands_at};
 use faults::value_fault;
 use names::variable_fault;
-use scan::{begins_at, span};
+use scan::{begins_at, end_of, span};
 use text::{BAD_FORM, BAD_NAME, Place, Stop, TOO_MUCH, bytes_from, starts_with};
 use tokens::{Read, next_token, stop_of};
 use variables::{named, value_count, with_name, with_value};
 
-// = or +=, and where reading goes on, or neither.
+// = or +=, and where reading goes on.
 #[derive(Clone, Copy)]
-pub enum OperatorRead {
-    Found { adds: bool, next: Place },
-    Missing,
+pub struct Operator {
+    pub adds: bool,
+    pub next: Place,
 }
 
-// The refusal, or whether a value was read and where reading goes on.
+// Whether a value was read, and where reading goes on.
 #[derive(Clone, Copy)]
-pub struct ValuesRead {
-    pub refused: bool,
-    pub stop: Stop,
+pub struct Values {
     pub given: bool,
     pub next: Place,
 }
@@ -41,11 +38,9 @@ pub struct Opened {
     pub w: usize,
 }
 
-// The refusal, or how many variables are set and where reading goes on.
+// How many variables are set, and where reading goes on.
 #[derive(Clone, Copy)]
-pub struct PreambleRead {
-    pub refused: bool,
-    pub stop: Stop,
+pub struct Preamble {
     pub count: usize,
     pub next: Place,
 }
@@ -61,45 +56,36 @@ fn is_in_line(b: u8) -> bool
 fn in_line_at(text: &[u8], at: usize) -> usize
     ensures { result ≡ in_line_at text.now at }
 {
-    let mut i = at;
-    while i < text.len() {
-        if is_in_line(text[i]) {
-            i += 1;
-        } else {
-            return i;
-        }
-    }
-    i
+    end_of(text, at, is_in_line)
 }
 
 // Whether no value stands at a place: the line or the text ends, or a comment begins.
 fn line_ends(text: &[u8], at: usize) -> bool
     ensures { result ≡ line_ends (drop at text.now) }
 {
-    if at < text.len() {
-        let b = text[at];
-        return (b == b'\n') | (b == b'#');
+    if let Some(b) = text.get(at) {
+        return (*b == b'\n') | (*b == b'#');
     }
     true
 }
 
 // The operator at a place.
-fn operator_at(text: &[u8], sign: usize) -> OperatorRead
+fn operator_at(text: &[u8], sign: usize) -> Option<Operator>
     ensures { (after : ℕ) → seen_operator text.now after result ≡ operator_from text.now after sign }
 {
     if begins_at(text, sign, b'=') {
-        return OperatorRead::Found {
+        return Some(Operator {
             adds: false,
             next: Place(sign + 1),
-        };
+        });
     }
     if starts_with(bytes_from(text, sign), b"+=") {
-        return OperatorRead::Found {
+        return Some(Operator {
             adds: true,
             next: Place(sign + 2),
-        };
+        });
     }
-    OperatorRead::Missing
+    None
 }
 
 // The fault of the name from start to before end under the first n variables, where = or += follows it.
@@ -136,7 +122,7 @@ fn next_fault(text: &[u8], vars: &[usize], w: usize, a: usize, e: usize) -> u8
 }
 
 // Gives variable w the values from a place on up to the line's end.
-fn values_at(text: &[u8], vars: &mut [usize; 1120], w: usize, at: Place) -> ValuesRead
+fn values_at(text: &[u8], vars: &mut [usize; 1120], w: usize, at: Place) -> Result<Values, Stop>
     requires { w < 32 }
     ensures { Valued text.now vars.old vars.new w (given_to text.now vars.old w at.0) result }
 {
@@ -146,37 +132,24 @@ fn values_at(text: &[u8], vars: &mut [usize; 1120], w: usize, at: Place) -> Valu
         let from = place.0;
         let p = in_line_at(text, from);
         if line_ends(text, p) {
-            return ValuesRead {
-                refused: false,
-                stop: Stop { number: 0, place },
+            return Ok(Values {
                 given,
                 next: Place(p),
-            };
+            });
         }
         let r = next_token(text, Place(p), 0);
         let Read::Found(t) = r else {
-            let stop = stop_of(r);
-            return ValuesRead {
-                refused: true,
-                stop,
-                given,
-                next: place,
-            };
+            return Err(stop_of(r));
         };
         let a = t.from.0;
         let e = t.end.0;
         let number = next_fault(text, vars, w, a, e);
         if number != 0 {
             let start = t.start;
-            return ValuesRead {
-                refused: true,
-                stop: Stop {
-                    number,
-                    place: start,
-                },
-                given,
-                next: place,
-            };
+            return Err(Stop {
+                number,
+                place: start,
+            });
         }
         with_value(vars, w, a, e);
         place = t.next;
@@ -208,19 +181,6 @@ fn open_name(
     Opened { count: n + 1, w: n }
 }
 
-// A refusal.
-fn refused_at(number: u8, place: Place) -> PreambleRead
-    ensures by_index { (text vars : List ℕ) → seen_preamble text vars result ≡ Refused number place.0 }
-    ensures none { result.count ≡ 0 }
-{
-    PreambleRead {
-        refused: true,
-        stop: Stop { number, place },
-        count: 0,
-        next: place,
-    }
-}
-
 // The first n variables after the assignment whose name stands from start to before end and whose operator stands at sign.
 fn after_operator(
     text: &[u8],
@@ -231,30 +191,29 @@ fn after_operator(
     sign: usize,
     adds: bool,
     next: Place,
-) -> PreambleRead
+) -> Result<Preamble, Stop>
     ensures result_after { seen_preamble text.now vars.new result ≡ assigned_of (env text.now vars.old n) (after_operator (env text.now vars.old n) text.now (span text.now start end) start sign (record { adds = adds; next = next.0 })) }
-    ensures few { n ≤ 32 → result.count ≤ 32 }
+    ensures few { n ≤ 32 → IfOk result (λ p. p.count ≤ 32) }
 {
     let fault = name_fault(text, vars, n, adds, start, end);
     if fault != 0 {
-        return refused_at(fault, Place(start));
+        return Err(Stop {
+            number: fault,
+            place: Place(start),
+        });
     }
     let o = open_name(text, vars, n, adds, start, end);
-    let v = values_at(text, vars, o.w, next);
-    let stop = v.stop;
-    let place = v.next;
-    if v.refused {
-        return refused_at(stop.number, stop.place);
-    }
+    let v = values_at(text, vars, o.w, next)?;
     if v.given {
-        return PreambleRead {
-            refused: false,
-            stop,
+        return Ok(Preamble {
             count: o.count,
-            next: place,
-        };
+            next: v.next,
+        });
     }
-    refused_at(BAD_FORM, Place(sign))
+    Err(Stop {
+        number: BAD_FORM,
+        place: Place(sign),
+    })
 }
 
 // The first n variables after the assignment whose name stands from start to before end.
@@ -264,19 +223,16 @@ fn after_name(
     n: usize,
     start: usize,
     end: usize,
-) -> PreambleRead
+) -> Result<Preamble, Stop>
     requires { end < length text.now }
     ensures result_after { seen_preamble text.now vars.new result ≡ assigned_of (env text.now vars.old n) (after_name (env text.now vars.old n) text.now (span text.now start end) start end) }
-    ensures few { n ≤ 32 → result.count ≤ 32 }
+    ensures few { n ≤ 32 → IfOk result (λ p. p.count ≤ 32) }
 {
     let sign = in_line_at(text, end + 1);
-    let operator = operator_at(text, sign);
-    let OperatorRead::Found { adds, next } = operator else {
-        let stop = stop_of(next_token(text, Place(end + 1), 0));
-        let place = stop.place;
-        return refused_at(stop.number, place);
+    let Some(o) = operator_at(text, sign) else {
+        return Err(stop_of(next_token(text, Place(end + 1), 0)));
     };
-    after_operator(text, vars, n, start, end, sign, adds, next)
+    after_operator(text, vars, n, start, end, sign, o.adds, o.next)
 }
 
 // A byte of an assigned name: a blank, #, NUL or } ends it.
@@ -296,22 +252,19 @@ fn is_in_name(b: u8) -> bool
 fn name_end(text: &[u8], at: usize) -> usize
     ensures { result ≡ at + run in_name (drop at text.now) }
 {
-    let mut i = at;
-    while i < text.len() {
-        if is_in_name(text[i]) {
-            i += 1;
-        } else {
-            return i;
-        }
-    }
-    i
+    end_of(text, at, is_in_name)
 }
 
 // The first n variables after the assignment whose @{ stands next at a place.
-fn assignment_at(text: &[u8], vars: &mut [usize; 1120], n: usize, at: Place) -> PreambleRead
+fn assignment_at(
+    text: &[u8],
+    vars: &mut [usize; 1120],
+    n: usize,
+    at: Place,
+) -> Result<Preamble, Stop>
     requires { stands_at (bytes "@{") text.now at.0 ≡ true }
     ensures result_after { seen_preamble text.now vars.new result ≡ assigned_of (env text.now vars.old n) (assignment_at (env text.now vars.old n) text.now at.0) }
-    ensures few { n ≤ 32 → result.count ≤ 32 }
+    ensures few { n ≤ 32 → IfOk result (λ p. p.count ≤ 32) }
 {
     let first = standing_at(text, at).0;
     let start = first + 2;
@@ -319,41 +272,37 @@ fn assignment_at(text: &[u8], vars: &mut [usize; 1120], n: usize, at: Place) -> 
     if begins_at(text, end, b'}') {
         let number = variable_fault(span(text, start, end));
         if number != 0 {
-            return refused_at(number, Place(start));
+            let place = Place(start);
+            return Err(Stop { number, place });
         }
         return after_name(text, vars, n, start, end);
     }
-    refused_at(BAD_FORM, Place(first))
+    Err(Stop {
+        number: BAD_FORM,
+        place: Place(first),
+    })
 }
 
 // Sets the variables of the assignments in front of the profiles, and says where the first profile may stand.
 // What stood in the table before is of no matter; what a refusal leaves in it says nothing.
-pub fn preamble_at(text: &[u8], vars: &mut [usize; 1120]) -> PreambleRead
+pub fn preamble_at(text: &[u8], vars: &mut [usize; 1120]) -> Result<Preamble, Stop>
     ensures result_after { seen_preamble text.now vars.new result ≡ preamble_of (preamble_at 512 [] text.now 0) }
-    ensures few { result.count ≤ 32 }
+    ensures few { IfOk result (λ p. p.count ≤ 32) }
 {
     let mut count: usize = 0;
     let mut at = Place(0);
     let mut left: usize = 512;
     while stands_at(text, at, b"@{") {
-        let a = assignment_at(text, vars, count, at);
-        if a.refused {
-            return a;
-        }
+        let a = assignment_at(text, vars, count, at)?;
         if left == 0 {
-            return refused_at(TOO_MUCH, standing_at(text, at));
+            return Err(Stop {
+                number: TOO_MUCH,
+                place: standing_at(text, at),
+            });
         }
         count = a.count;
         at = a.next;
         left -= 1;
     }
-    PreambleRead {
-        refused: false,
-        stop: Stop {
-            number: 0,
-            place: at,
-        },
-        count,
-        next: at,
-    }
+    Ok(Preamble { count, next: at })
 }

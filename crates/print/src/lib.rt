@@ -6,7 +6,6 @@ ghost use Rattle.std.specs.Io.KnownBytes.{Appends};
 ghost use Rattle.modes.specs.Modes.{execute_word};
 
 use modes::Execute;
-use scan::span;
 use std::io;
 use std::io::Write;
 
@@ -28,9 +27,7 @@ pub fn put_number<W: Write>(out: &mut W, n: u64) -> io::Result<()>
 pub fn put_execute<W: Write>(out: &mut W, execute: Execute) -> io::Result<()>
     ensures { OnOk result (Appends (W.contents out.old) (W.contents out.new) (execute_word execute)) }
 {
-    let word = execute.word();
-    let bytes = word.bytes;
-    put(out, span(&bytes, 0, word.len))
+    put(out, execute.word())
 }
 
 // Writes the first bytes of a target, as many as counted, or these words where it has none, and answers whether it has any.
@@ -47,8 +44,8 @@ pub fn put_target<W: Write>(
         put(out, none)?;
         return Ok(false);
     }
-    if len <= 255 {
-        put(out, &bytes[..len])?;
+    if let Some(target) = bytes.get(..len) {
+        put(out, target)?;
     }
     Ok(true)
 }

@@ -15,6 +15,9 @@ use Rattle.tokens.specs.Tokens.{Token, no_stop, token_at}
 use Rattle.blanks.specs.Blanks.{standing}
 use Rattle.keywords.specs.Keywords.{first_word, not_taken}
 use Rattle.text.specs.declared.Place.{Place}
+use Rattle.tokens.specs.Places.{seen}
+use Rattle.tokens.specs.declared.Read as tokens
+use Rattle.tokens.specs.declared.Read.TheVariants as read
 use Rattle.text.specs.declared.Stop.{Stop}
 use Rattle.pattern.specs.Expansions.{Variable}
 use Rattle.pattern.specs.Faults.{pattern_fault}
@@ -24,25 +27,28 @@ use Rattle.text.specs.Places.{refused_by, span_of}
 use Rattle.text.specs.declared.Span.{Span}
 use Rattle.statement.specs.Steps.{Counted, counted, rules_from}
 use Rattle.statement.proofs.Laws.{rules-unjudged}
-use Rattle.body.specs.Places.{seen_rules}
-use Rattle.body.specs.declared.RulesRead as code
-use Rattle.body.specs.declared.RulesRead.TheVariants as rules-read
 use Rattle.preamble.specs.Variables.{final_sets}
 use Rattle.preamble.specs.Preamble.{Preamble, preamble_at}
 use Rattle.preamble.specs.Places.{State, preamble_of, seen_preamble}
-use Rattle.preamble.specs.declared.PreambleRead.{PreambleRead}
+use Rattle.preamble.specs.declared.Preamble.{Preamble as PreambleRead}
 use Rattle.preamble.proofs.Laws.{preamble-sets}
 use Rattle.heads.specs.Heads.{Head, head_at, name_at}
-use Rattle.heads.specs.Places.{names_of, seen_head}
-use Rattle.heads.specs.declared.HeadRead.{HeadRead}
-use Rattle.heads.specs.declared.HeadRead.TheVariants as head
+use Rattle.heads.specs.Places.{names_of}
+use Rattle.heads.specs.declared.Head as head
 use Rattle.profile.specs.Profiles.{OneProfile, Profile, ends, file_within, one_profile, profile_at, profiles_at, rule_count, rules_in, unless_end}
-use Rattle.profile.specs.Places.{FileKept, Judged, Accepted, Kept, Rejected, OneMore, judged_of, profile_of, profiles_again, profiles_by, profiles_from, profiles_of, refusal_of, rules_read, seen_file, seen_profile, seen_profiles}
+use Rattle.profile.specs.Places.{FileKept, Judged, Accepted, Kept, Rejected, OneMore, judged_of, profile_of, profiles_again, profiles_by, profiles_from, profiles_of, rules_read, seen_file, seen_profile, seen_profiles}
 use Rattle.profile.specs.declared.Profiles.{Profiles}
 use Rattle.profile.specs.declared.ProfileRead.{ProfileRead}
-use Rattle.profile.specs.declared.ProfileRead.TheVariants as profile-read
+use Rattle.std.proofs.Common.{Ok, Err}
 use Rattle.profile.specs.declared.ProfilesRead.{ProfilesRead}
 use Rattle.profile.specs.declared.FileRead.{FileRead}
+
+-- where a token stands, or is refused, the text does not end
+pub not-end : (s : List ℕ) (r : tokens.Read) → ((p : Place) → r ≡ read.End p → ⊥) → ends (seen s r) ≡ false
+unfolding seen
+not-end s (read.Found t) h = refl
+not-end s (read.Stopped stop) h = refl
+not-end s (read.End p) h = absurd (h p refl)
 
 -- ---- heads
 
@@ -116,24 +122,16 @@ module _ (full : Bool) (left : ℕ) (used : List (List ℕ)) (vs : List Variable
         go (Refused m p) r q = let z : ◌≡◌ {A = ℕ} 0 1 = cc in absurd (omega arith)
 
   -- by the head and the rules that were read
-  module _ (r : HeadRead) (e : seen_head s r ≡ head_at full used s at) where
-    pub by-head-refused : (stop : Stop) → r ≡ head.Refused stop → profile_at full left used vs s at ≡ refused_by stop
-    unfolding seen_head
-    by-head-refused stop g = profile-refused (rw (← e, g))
+  pub by-head-refused : (stop : Stop) → refused_by stop ≡ head_at full used s at → profile_at full left used vs s at ≡ refused_by stop
+  by-head-refused stop e = profile-refused (sym e)
 
-    module _ (name : Span) (next : Place) (g : r ≡ head.Good name next) (rs : code.RulesRead) (f : seen_rules rs ≡ counted (rules_at left (pattern_fault vs) s next.0)) where
-      read_head : head_at full used s at ≡ Read (record { name = span_of s name; next = next.0 })
-      unfolding seen_head
-      read_head = rw (← e, g)
+  module _ (h : head.Head) (e : Read (record { name = span_of s h.name; next = h.next.0 }) ≡ head_at full used s at) where
+    pub by-rules-refused : (stop : Stop) → refused_by stop ≡ counted (rules_at left (pattern_fault vs) s h.next.0) → profile_at full left used vs s at ≡ refused_by stop
+    by-rules-refused stop f = profile-rules-refused (record { name = span_of s h.name; next = h.next.0 }) (sym e) (sym f)
 
-      pub by-rules-refused : (stop : Stop) → rs ≡ rules-read.Refused stop → profile_at full left used vs s at ≡ refused_by stop
-      unfolding seen_rules
-      by-rules-refused stop h = profile-rules-refused (record { name = span_of s name; next = next.0 }) read_head (rw (← f, h))
-
-      pub by-rules-good : (k : ℕ) (past : Place) → rs ≡ rules-read.Good k past →
-          profile_at full left used vs s at ≡ Read (record { profile = record { name = span_of s name; rules = rules_from k (pattern_fault vs) s next.0 }; count = k; next = past.0 })
-      unfolding seen_rules
-      by-rules-good k past h = profile-good (record { name = span_of s name; next = next.0 }) read_head (rw (← f, h))
+    pub by-rules-good : (k : ℕ) (past : Place) → Read (record { count = k; next = past.0 }) ≡ counted (rules_at left (pattern_fault vs) s h.next.0) →
+        profile_at full left used vs s at ≡ Read (record { profile = record { name = span_of s h.name; rules = rules_from k (pattern_fault vs) s h.next.0 }; count = k; next = past.0 })
+    by-rules-good k past f = profile-good (record { name = span_of s h.name; next = h.next.0 }) (sym e) (sym f)
 
   profile-left : {x : OneProfile} → profile_at full left used vs s at ≡ Read x → x.count ≤ left
   unfolding profile_at
@@ -265,29 +263,31 @@ module _ (vs : List Variable) (s : List ℕ) (p : Profiles) (left at : ℕ) wher
           ∙ ap₂ (λ (l : List Profile) (u : List (List ℕ)). after l (profiles_at (32 - new.count) (left - k) u vs s n)) (sym (w.last (pattern_fault vs) s)) (sym (w.names s))
 
 -- a turn of reading profiles, by what was read
-module _ (vs : List Variable) (s : List ℕ) (p : Profiles) (left at : ℕ) (low : p.count ≤ 32) (r : ProfileRead) (e : seen_profile vs s r ≡ next_of vs s p left at) where
-  pub turn-refused : ends (token_at no_stop s at) ≡ false → (stop : Stop) → r ≡ profile-read.Refused stop → read_from vs s p left at ≡ refused_by stop
+module _ (vs : List Variable) (s : List ℕ) (p : Profiles) (left at : ℕ) (low : p.count ≤ 32) where
+  pub turn-refused : ends (token_at no_stop s at) ≡ false → (stop : Stop) → seen_profile vs s (Err stop) ≡ next_of vs s p left at → read_from vs s p left at ≡ refused_by stop
   unfolding seen_profile
-  turn-refused b stop g = read-refused vs s p left at low b (rw (← e, g))
+  turn-refused b stop e = read-refused vs s p left at low b (sym e)
 
-  module _ (name : Span) (rules : Place) (k : ℕ) (next : Place) (g : r ≡ profile-read.Good name rules k next) where
-    told : next_of vs s p left at ≡ Read (record { profile = record { name = span_of s name; rules = rules_from k (pattern_fault vs) s rules.0 }; count = k; next = next.0 })
+  module _ (r : ProfileRead) (e : seen_profile vs s (Ok r) ≡ next_of vs s p left at) where
+    told : next_of vs s p left at ≡
+        Read (record { profile = record { name = span_of s r.name; rules = rules_from r.count (pattern_fault vs) s r.rules.0 }; count = r.count; next = r.next.0 })
     unfolding seen_profile
-    told = rw (← e, g)
+    told = sym e
 
     pub turn-room : p.count < 32
     turn-room = read-room vs s p left at low told
 
-    pub turn-left : k ≤ left
+    pub turn-left : r.count ≤ left
     turn-left = profile-left (leb 32 p.count) left (names_of s p.table p.count) vs s at told
 
-    turn-count : length (rules_from k (pattern_fault vs) s rules.0) ≡ k
+    turn-count : length (rules_from r.count (pattern_fault vs) s r.rules.0) ≡ r.count
     turn-count = profile-count (leb 32 p.count) left (names_of s p.table p.count) vs s at told
 
-    turn-again : rules_from k (λ _. 0) s rules.0 ≡ rules_from k (pattern_fault vs) s rules.0
-    turn-again = rules-unjudged (pattern_fault vs) s k rules.0 turn-count
+    turn-again : rules_from r.count (λ _. 0) s r.rules.0 ≡ rules_from r.count (pattern_fault vs) s r.rules.0
+    turn-again = rules-unjudged (pattern_fault vs) s r.count r.rules.0 turn-count
 
-    turn_more : ends (token_at no_stop s at) ≡ false → {new : Profiles} → OneMore p name rules k new → read_from vs s p left at ≡ read_from vs s new (left - k) next.0
+    turn_more : ends (token_at no_stop s at) ≡ false → {new : Profiles} → OneMore p r.name r.rules r.count new →
+        read_from vs s p left at ≡ read_from vs s new (left - r.count) r.next.0
     turn_more b w = read_more vs s p left at low b w told
 
 -- ---- a profile stored
@@ -415,73 +415,39 @@ module _ (vs : List Variable) (s : List ℕ) (allowed from : ℕ) (p : Profiles)
 
   module _ (left at : ℕ) (so : SoFar vs s allowed from p left at) where
     -- one profile more
-    pub more : (r : ProfileRead) → seen_profile vs s r ≡ next_of vs s p left at → (name : Span) (rules : Place) (k : ℕ) (next : Place) →
-        r ≡ profile-read.Good name rules k next → ends (token_at no_stop s at) ≡ false → {new : Profiles} → OneMore p name rules k new →
-        SoFar vs s allowed from new (left - k) next.0
-    more r e name rules k next g b {new} w =
-        let room : p.count < 32 = turn-room vs s p left at so.low r e name rules k next g in
-        let fits : k ≤ left = turn-left vs s p left at so.low r e name rules k next g in
-        let size : length (rules_from k (pattern_fault vs) s rules.0) ≡ k = turn-count vs s p left at so.low r e name rules k next g in
-        let x : Profile = record { name = span_of s name; rules = rules_from k (pattern_fault vs) s rules.0 } in
+    pub more : (r : ProfileRead) → seen_profile vs s (Ok r) ≡ next_of vs s p left at → ends (token_at no_stop s at) ≡ false →
+        {new : Profiles} → OneMore p r.name r.rules r.count new → SoFar vs s allowed from new (left - r.count) r.next.0
+    more r e b {new} w =
+        let room : p.count < 32 = turn-room vs s p left at so.low r e in
+        let fits : r.count ≤ left = turn-left vs s p left at so.low r e in
+        let size : length (rules_from r.count (pattern_fault vs) s r.rules.0) ≡ r.count = turn-count vs s p left at so.low r e in
+        let x : Profile = record { name = span_of s r.name; rules = rules_from r.count (pattern_fault vs) s r.rules.0 } in
         let ps : List Profile = profiles_from vs s p.table p.count 0 in
-        let total : rules_in (profiles_from vs s new.table new.count 0) ≡ rules_in ps + k =
+        let total : rules_in (profiles_from vs s new.table new.count 0) ≡ rules_in ps + r.count =
         ap rules_in (w.last (pattern_fault vs) s) ∙ rules-one ps x ∙ ap (λ (n : ℕ). rules_in ps + n) size in
         record {
           low = omega (arith, w.count);
-          read = sym (turn_more vs s p left at so.low r e name rules k next g b w) ∙ so.read;
+          read = sym (turn_more vs s p left at so.low r e b w) ∙ so.read;
           again =
               w.last (λ _. 0) s
-              ∙ ap₂ (λ (l : List Profile) (y : List Rule). l ++ (record { name = span_of s name; rules = y } ∷ []))
+              ∙ ap₂ (λ (l : List Profile) (y : List Rule). l ++ (record { name = span_of s r.name; rules = y } ∷ []))
               so.again
-              (turn-again vs s p left at so.low r e name rules k next g)
+              (turn-again vs s p left at so.low r e)
               ∙ sym (w.last (pattern_fault vs) s);
           rules = omega (arith, total, so.rules);
         }
 
-    -- where the text ends, or is refused
-    pub kept-end : (r : ProfilesRead) → r.refused ≡ false → r.profiles ≡ p → r.rules ≡ allowed - left → Kept vs s allowed r
+    -- where the text ends
+    pub kept-end : Kept vs s allowed (record { profiles = p; rules = allowed - left })
     unfolding seen_profiles rules_read
-    kept-end r a b c =
-        record {
-          few = rw b so.low;
-          again = rw b so.again;
-          rules = rw (a, b, c, seen_profiles) (omega (arith, so.rules));
-          fits = omega arith;
-        }
-
-    pub kept-refused : (r : ProfilesRead) → r.refused ≡ true → r.profiles ≡ p → r.rules ≡ 0 → Kept vs s allowed r
-    unfolding seen_profiles rules_read
-    kept-refused r a b c = record { few = rw b so.low; again = rw b so.again; rules = rw (a, c, seen_profiles); fits = omega arith }
+    kept-end = record { few = so.low; again = so.again; rules = omega (arith, so.rules); fits = omega arith }
 
 -- ---- the whole text
-
--- the variables that were read
-held-read : (s t : List ℕ) (p : PreambleRead) (x : State) → seen_preamble s t p ≡ Read x → env s t p.count ≡ x.variables
-unfolding seen_preamble
-held-read s t p x e = go p.refused refl e
-  where
-    go : (b : Bool) → p.refused ≡ b → seen_preamble s t p ≡ Read x → env s t p.count ≡ x.variables
-    go true q f = let h = (rw (q, seen_preamble) at f) in let z : ◌≡◌ {A = ℕ} 0 1 = cc in absurd (omega arith)
-    go false q f =
-        let h = (rw (q, seen_preamble) at f) in
-        let j : ◌≡◌ {A = State} (record { variables = env s t p.count; next = p.next.0 }) x = cc in
-        ap (λ (y : State). y.variables) j
 
 -- the profiles under these variables, or the refusal, with its line and column
 unfoldable judged_by : List Variable → List ℕ → Reading (List Profile) → Judged
 judged_by vs s (Read ps) = Accepted vs ps
 judged_by vs s (Refused n p) = Rejected (refusal_at s n p)
-
--- as the code tells it
-seen-judged : (s t : List ℕ) (r : FileRead) (ps : ProfilesRead) → r.refused ≡ ps.refused → r.refusal ≡ refusal_of ps.refused s ps.stop →
-    r.profiles ≡ ps.profiles.table → r.count ≡ ps.profiles.count →
-    seen_file s t r ≡ judged_by (env s t r.vars) s (seen_profiles (env s t r.vars) s ps)
-unfolding seen_file seen_profiles judged_by
-seen-judged s t r ps a b d e = go ps.refused refl
-  where
-    go : (x : Bool) → ps.refused ≡ x → seen_file s t r ≡ judged_by (env s t r.vars) s (seen_profiles (env s t r.vars) s ps)
-    go true q = rw (a, q, b, q, seen_file)
-    go false q = rw (a, q, d, e, seen_file)
 
 module _ (allowed : ℕ) (s : List ℕ) where
   -- as the definition tells it
@@ -516,24 +482,56 @@ module _ (allowed : ℕ) (s : List ℕ) where
       go (Read p) = profiles p (profiles_at 32 allowed [] p.variables s p.next)
       go (Refused n q) = refl
 
-  module _ (t : List ℕ) (p : PreambleRead) (ps : ProfilesRead) (e : seen_preamble s t p ≡ preamble_of (preamble_at 512 [] s 0))
-      (f : seen_profiles (env s t p.count) s ps ≡ profiles_of allowed s (seen_preamble s t p)) (r : FileRead) (v : r.vars ≡ p.count) where
-    pub file-read : r.refused ≡ ps.refused → r.refusal ≡ refusal_of ps.refused s ps.stop →
-        r.profiles ≡ ps.profiles.table → r.count ≡ ps.profiles.count → seen_file s t r ≡ judged_of s (file_within allowed s)
-    unfolding preamble_of
-    file-read a b d k =
-        seen-judged s t r ps a b d k
-        ∙ ap (λ (n : ℕ). judged_by (env s t n) s (seen_profiles (env s t n) s ps)) v
-        ∙ ap (judged_by (env s t p.count) s) (f ∙ ap (profiles_of allowed s) e)
-        ∙ file-judged (env s t p.count) (λ q g. held-read s t p (record { variables = q.variables; next = q.next }) (e ∙ ap preamble_of g))
+  -- the assignments are refused
+  pub file-refused : (t : List ℕ) (stop : Stop) → seen_preamble s t (Err stop) ≡ preamble_of (preamble_at 512 [] s 0) →
+      Rejected (refusal_at s stop.number stop.place.0) ≡ judged_of s (file_within allowed s)
+  unfolding seen_preamble preamble_of judged_of file_within
+  file-refused t stop e = go (preamble_at 512 [] s 0) e
+    where
+      go : (x : Reading Preamble) → refused_by {A = State} stop ≡ preamble_of x →
+          Rejected (refusal_at s stop.number stop.place.0)
+          ≡ judged_of s (x >>= λ p. profiles_at 32 allowed [] p.variables s p.next >>= λ ps. Read (record { preamble = p.assignments; profiles = ps }))
+      go (Read p) q = let z : ◌≡◌ {A = ℕ} 0 1 = cc in absurd (omega arith)
+      go (Refused n p) q =
+          let i : stop.number ≡ n = cc in
+          let j : stop.place.0 ≡ p = cc in
+          rw (i, j)
 
-    pub file-kept : p.count ≤ 32 → Kept (env s t p.count) s allowed ps → r.profiles ≡ ps.profiles.table → r.count ≡ ps.profiles.count → r.rules ≡ ps.rules →
-        FileKept s t allowed r
-    file-kept n k d c h =
-        record {
-          set = rw v n;
-          few = rw c k.few;
-          again = rw (c, d, v) k.again;
-          rules = h ∙ k.rules ∙ ap rules_read (f ∙ ap (profiles_of allowed s) e) ∙ rules-counted;
-          fits = rw h k.fits;
-        }
+  -- the assignments are read, and then the profiles
+  module _ (t : List ℕ) (p : PreambleRead) (e : seen_preamble s t (Ok p) ≡ preamble_of (preamble_at 512 [] s 0)) where
+    sets : (q : Preamble) → preamble_at 512 [] s 0 ≡ Read q → env s t p.count ≡ q.variables
+    unfolding seen_preamble preamble_of
+    sets q f =
+        let j : ◌≡◌ {A = State} (record { variables = env s t p.count; next = p.next.0 }) (record { variables = q.variables; next = q.next }) = (let h = e ∙ ap preamble_of f in cc) in
+        ap (λ (y : State). y.variables) j
+
+    module _ (x : Reading (List Profile)) (f : x ≡ profiles_at 32 allowed [] (env s t p.count) s p.next.0) where
+      after-preamble : x ≡ profiles_of allowed s (preamble_of (preamble_at 512 [] s 0))
+      unfolding seen_preamble profiles_of
+      after-preamble = f ∙ ap (profiles_of allowed s) e
+
+      file-profiles : judged_by (env s t p.count) s x ≡ judged_of s (file_within allowed s)
+      file-profiles = ap (judged_by (env s t p.count) s) after-preamble ∙ file-judged (env s t p.count) sets
+
+    pub profiles-refused : (stop : Stop) → seen_profiles (env s t p.count) s (Err stop) ≡ profiles_at 32 allowed [] (env s t p.count) s p.next.0 →
+        Rejected (refusal_at s stop.number stop.place.0) ≡ judged_of s (file_within allowed s)
+    unfolding seen_profiles judged_by
+    profiles-refused stop f = file-profiles (refused_by stop) f
+
+    module _ (ps : ProfilesRead) (f : seen_profiles (env s t p.count) s (Ok ps) ≡ profiles_at 32 allowed [] (env s t p.count) s p.next.0) where
+      abbrev found : FileRead
+      found = record { vars = p.count; profiles = ps.profiles.table; count = ps.profiles.count; rules = ps.rules }
+
+      pub file-read : seen_file s t (Ok found) ≡ judged_of s (file_within allowed s)
+      unfolding seen_file seen_profiles judged_by
+      file-read = file-profiles (Read (profiles_from (env s t p.count) s ps.profiles.table ps.profiles.count 0)) f
+
+      pub file-kept : p.count ≤ 32 → Kept (env s t p.count) s allowed ps → FileKept s t allowed found
+      file-kept n k =
+          record {
+            set = n;
+            few = k.few;
+            again = k.again;
+            rules = k.rules ∙ ap rules_read (after-preamble (seen_profiles (env s t p.count) s (Ok ps)) f) ∙ rules-counted;
+            fits = k.fits;
+          }

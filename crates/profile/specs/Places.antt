@@ -1,8 +1,8 @@
 -- The table of profiles, as numbers, and what the code's values mean over the text: profile i has the places of its name at 4 * i,
 -- the place where its rules start at 4 * i + 2, and their number at 4 * i + 3.
-use Rattle.std.specs.Prelude.{ℕ, zero, suc, ◌+◌, ◌*◌, ◌≤◌, ◌≡◌, List, [], ◌∷◌, ◌++◌, Bool, get_or, if◌then◌else◌}
+use Rattle.std.specs.Prelude.{ℕ, zero, suc, ◌+◌, ◌*◌, ◌≤◌, ◌≡◌, List, [], ◌∷◌, ◌++◌, get_or, Result, Ok, Err}
 use Prim.Native.Char.{code}
-use Rattle.text.specs.Reading.{Reading, Read, Refused, ◌>>=◌, nowhere, refusal_at}
+use Rattle.text.specs.Reading.{Reading, Read, Refused, ◌>>=◌, refusal_at}
 use Rattle.text.specs.Places.{refused_by}
 use Rattle.text.specs.declared.Place.{Place}
 use Rattle.pattern.specs.Expansions.{Variable}
@@ -19,7 +19,6 @@ use Rattle.heads.specs.Places.{names_of}
 use Rattle.profile.specs.Profiles.{Profile, File, OneProfile, file_within, profiles_at, rule_count, rules_in}
 use Rattle.profile.specs.declared.Profiles.{Profiles}
 use Rattle.profile.specs.declared.ProfileRead.{ProfileRead}
-use Rattle.profile.specs.declared.ProfileRead.TheVariants as profile-read
 use Rattle.profile.specs.declared.ProfilesRead.{ProfilesRead}
 use Rattle.profile.specs.declared.FileRead.{FileRead}
 
@@ -54,13 +53,14 @@ pub record OneMore (old : Profiles) (name : Span) (rules : Place) (k : ℕ) (new
 -- ---- all profiles
 
 -- as the code tells it
-unfoldable pub seen_profile : List Variable → List ℕ → ProfileRead → Reading OneProfile
-seen_profile vs s (profile-read.Good name rules k n) =
-    Read (record { profile = record { name = span_of s name; rules = rules_from k (pattern_fault vs) s rules.0 }; count = k; next = n.0 })
-seen_profile vs s (profile-read.Refused stop) = refused_by stop
+unfoldable pub seen_profile : List Variable → List ℕ → Result ProfileRead Stop → Reading OneProfile
+seen_profile vs s (Ok r) =
+    Read (record { profile = record { name = span_of s r.name; rules = rules_from r.count (pattern_fault vs) s r.rules.0 }; count = r.count; next = r.next.0 })
+seen_profile vs s (Err stop) = refused_by stop
 
-unfoldable pub seen_profiles : List Variable → List ℕ → ProfilesRead → Reading (List Profile)
-seen_profiles vs s r = if r.refused then refused_by r.stop else Read (profiles_from vs s r.profiles.table r.profiles.count 0)
+unfoldable pub seen_profiles : List Variable → List ℕ → Result ProfilesRead Stop → Reading (List Profile)
+seen_profiles vs s (Ok r) = Read (profiles_from vs s r.profiles.table r.profiles.count 0)
+seen_profiles vs s (Err stop) = refused_by stop
 
 -- how many rules were read; none where they are refused
 unfoldable pub rules_read : Reading (List Profile) → ℕ
@@ -72,7 +72,7 @@ rules_read (Refused n p) = 0
 pub record Kept (vs : List Variable) (s : List ℕ) (allowed : ℕ) (r : ProfilesRead) : Type 0 where
   pub few : r.profiles.count ≤ 32
   pub again : profiles_again s r.profiles.table r.profiles.count 0 ≡ profiles_from vs s r.profiles.table r.profiles.count 0
-  pub rules : r.rules ≡ rules_read (seen_profiles vs s r)
+  pub rules : r.rules ≡ rules_read (seen_profiles vs s (Ok r))
   pub fits : r.rules ≤ allowed
 
 -- ---- the whole text
@@ -86,19 +86,19 @@ pub data Judged : Type 0 where
   Accepted : List Variable → List Profile → Judged
   Rejected : Refusal → Judged
 
--- the refusal of a text, where it is refused
-abbrev pub refusal_of : (refused : Bool) → List ℕ → Stop → Refusal
-refusal_of refused s r = if refused then refusal_at s r.number r.place.0 else nowhere 0
-
 unfoldable pub judged_of : List ℕ → Reading File → Judged
 judged_of s (Read f) = Accepted (final_sets [] f.preamble) f.profiles
 judged_of s (Refused n p) = Rejected (refusal_at s n p)
 
 -- as the code tells it, with the table of variables
-unfoldable pub seen_file : (text vars : List ℕ) → FileRead → Judged
-seen_file s t r =
-    if r.refused then Rejected r.refusal
-    else Accepted (env s t r.vars) (profiles_from (env s t r.vars) s r.profiles r.count 0)
+unfoldable pub seen_file : (text vars : List ℕ) → Result FileRead Refusal → Judged
+seen_file s t (Ok r) = Accepted (env s t r.vars) (profiles_from (env s t r.vars) s r.profiles r.count 0)
+seen_file s t (Err refusal) = Rejected refusal
+
+-- the same, where a refusal has its place and not yet its line
+abbrev pub seen_stopped : (text vars : List ℕ) → Result FileRead Stop → Judged
+seen_stopped s t (Ok r) = seen_file s t (Ok r)
+seen_stopped s t (Err stop) = Rejected (refusal_at s stop.number stop.place.0)
 
 -- and what is known besides
 pub record FileKept (s t : List ℕ) (allowed : ℕ) (r : FileRead) : Type 0 where

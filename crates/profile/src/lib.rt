@@ -1,28 +1,27 @@
 // The profiles of a text, and the whole text.
 #![tactic(auto)]
 
-ghost use Rattle.std.specs.Prelude.{◌≡◌, [], ◌≤◌, ◌<◌, min, leb};
+ghost use Rattle.std.specs.Prelude.{◌≡◌, [], ◌≤◌, ◌<◌, min, leb, IfOk};
 ghost use Rattle.tokens.specs.Tokens.{no_stop, token_at};
 ghost use Rattle.pattern.specs.Table.{env};
 ghost use Rattle.sizes.specs.Sizes.{Known};
 ghost use Rattle.profile.specs.Profiles.{ends, file_within, profile_at, profiles_at};
-ghost use Rattle.preamble.specs.Places.{seen_preamble};
 ghost use Rattle.heads.specs.Places.{names_of};
-ghost use Rattle.profile.specs.Places.{FileKept, Kept, OneMore, judged_of, profiles_of, refusal_of, seen_file, seen_profile, seen_profiles};
+ghost use Rattle.profile.specs.Places.{FileKept, Kept, OneMore, judged_of, seen_file, seen_profile, seen_profiles, seen_stopped};
 
-use body::{RulesRead, rules_at};
-use heads::{HeadRead, head_at};
+use body::rules_at;
+use heads::head_at;
 use measure::sizes_of;
-use preamble::{PreambleRead, preamble_at};
+use preamble::preamble_at;
 use scan::least;
-use text::{Place, Refusal, Span, Stop, nowhere, refusal_at};
+use text::{Place, Refusal, Span, Stop, refusal_at};
 use tokens::Read;
 
 // The most rules of a text.
 pub const RULES: usize = 512;
 
 // The profiles of a text: profile i has the places of its name at 4 * i and 4 * i + 1 of the table, the place where its
-// rules start at 4 * i + 2, and their number at 4 * i + 3.
+// rules start at 4 * i + 2, and their number at 4 * i + 3. Numbers, since the table goes into the head that callers of C lend.
 #[derive(Clone, Copy)]
 pub struct Profiles {
     pub table: [usize; 128],
@@ -45,26 +44,16 @@ fn no_profiles() -> Profiles
 fn ends_at(text: &[u8], at: Place) -> bool
     ensures { result ≡ ends (token_at no_stop text.now at.0) }
 {
-    match tokens::next_token(text, at, 0) {
-        Read::Found(_) => false,
-        Read::Stopped {
-            number: _,
-            place: _,
-        } => false,
-        Read::End(_) => true,
-    }
+    matches!(tokens::next_token(text, at, 0), Read::End(_))
 }
 
-// A profile: its name, where its rules start, how many they are and where reading goes on, or the refusal.
+// A profile: its name, where its rules start, how many they are and where reading goes on.
 #[derive(Clone, Copy)]
-pub enum ProfileRead {
-    Good {
-        name: Span,
-        rules: Place,
-        count: usize,
-        next: Place,
-    },
-    Refused(Stop),
+pub struct ProfileRead {
+    pub name: Span,
+    pub rules: Place,
+    pub count: usize,
+    pub next: Place,
 }
 
 // The profile at a place, where the first k profiles are known and so many rules are left.
@@ -77,23 +66,19 @@ fn profile_at(
     k: usize,
     left: usize,
     at: Place,
-) -> ProfileRead
+) -> Result<ProfileRead, Stop>
     requires k_bound { k ≤ 32 }
     requires known { Known text.now vars.now n sizes.now }
     ensures { seen_profile (env text.now vars.now n) text.now result ≡ profile_at (leb 32 k) left (names_of text.now table.now k) (env text.now vars.now n) text.now at.0 }
 {
-    match head_at(text, table, k, at) {
-        HeadRead::Refused(stop) => ProfileRead::Refused(stop),
-        HeadRead::Good { name, next } => match rules_at(text, vars, n, sizes, left, next) {
-            RulesRead::Refused(stop) => ProfileRead::Refused(stop),
-            RulesRead::Good { count, next: after } => ProfileRead::Good {
-                name,
-                rules: next,
-                count,
-                next: after,
-            },
-        },
-    }
+    let head = head_at(text, table, k, at)?;
+    let read = rules_at(text, vars, n, sizes, left, head.next)?;
+    Ok(ProfileRead {
+        name: head.name,
+        rules: head.next,
+        count: read.count,
+        next: read.next,
+    })
 }
 
 // One profile more.
@@ -111,11 +96,9 @@ fn with_profile(profiles: Profiles, name: Span, rules: Place, count: usize) -> P
     u
 }
 
-// The refusal, or the profiles and how many rules they have.
+// The profiles, and how many rules they have.
 #[derive(Clone, Copy)]
 pub struct ProfilesRead {
-    pub refused: bool,
-    pub stop: Stop,
     pub profiles: Profiles,
     pub rules: usize,
 }
@@ -128,116 +111,65 @@ fn profiles_at(
     sizes: &[usize; 132],
     allowed: usize,
     at: Place,
-) -> ProfilesRead
+) -> Result<ProfilesRead, Stop>
     requires { Known text.now vars.now n sizes.now }
     ensures result_value { seen_profiles (env text.now vars.now n) text.now result ≡ profiles_at 32 allowed [] (env text.now vars.now n) text.now at.0 }
-    ensures kept { Kept (env text.now vars.now n) text.now allowed result }
+    ensures kept { IfOk result (λ r. Kept (env text.now vars.now n) text.now allowed r) }
 {
     let mut profiles = no_profiles();
     let mut place = at;
     let mut left = allowed;
-    loop {
-        if ends_at(text, place) {
-            return ProfilesRead {
-                refused: false,
-                stop: Stop { number: 0, place },
-                profiles,
-                rules: allowed - left,
-            };
-        }
+    while !ends_at(text, place) {
         let k = profiles.count;
-        let r = profile_at(text, vars, n, sizes, &profiles.table, k, left, place);
-        match r {
-            ProfileRead::Good {
-                name,
-                rules,
-                count,
-                next,
-            } => {
-                profiles = with_profile(profiles, name, rules, count);
-                left -= count;
-                place = next;
-            }
-            ProfileRead::Refused(stop) => {
-                return ProfilesRead {
-                    refused: true,
-                    stop,
-                    profiles,
-                    rules: 0,
-                };
-            }
-        }
+        let p = profile_at(text, vars, n, sizes, &profiles.table, k, left, place)?;
+        profiles = with_profile(profiles, p.name, p.rules, p.count);
+        left -= p.count;
+        place = p.next;
     }
+    Ok(ProfilesRead {
+        profiles,
+        rules: allowed - left,
+    })
 }
 
 // ---- the whole text
 
-// The refusal, or how many variables are set, the table of profiles, how many it has, and how many rules these have.
+// How many variables are set, the table of profiles, how many it has, and how many rules these have.
 #[derive(Clone, Copy)]
 pub struct FileRead {
-    pub refused: bool,
-    pub refusal: Refusal,
     pub vars: usize,
     pub profiles: [usize; 128],
     pub count: usize,
     pub rules: usize,
 }
 
-// The refusal of a text, where it is refused.
-fn refusal_of(refused: bool, text: &[u8], stop: Stop) -> Refusal
-    ensures { result ≡ refusal_of refused text.now stop }
+// Reads a whole text, where so many rules are allowed, and sets its variables in the table.
+fn file_at(text: &[u8], vars: &mut [usize; 1120], allowed: usize) -> Result<FileRead, Stop>
+    ensures result_after { seen_stopped text.now vars.new result ≡ judged_of text.now (file_within allowed text.now) }
+    ensures kept { IfOk result (λ f. FileKept text.now vars.new allowed f) }
 {
-    if refused {
-        return refusal_at(text, stop);
-    }
-    nowhere(0)
-}
-
-// The profiles after the assignments, where so many rules are allowed, or the refusal.
-fn profiles_of(
-    text: &[u8],
-    vars: &[usize],
-    p: PreambleRead,
-    sizes: &[usize; 132],
-    allowed: usize,
-) -> ProfilesRead
-    requires { Known text.now vars.now p.count sizes.now }
-    ensures result_value { seen_profiles (env text.now vars.now p.count) text.now result ≡ profiles_of allowed text.now (seen_preamble text.now vars.now p) }
-    ensures kept { Kept (env text.now vars.now p.count) text.now allowed result }
-{
-    let stop = p.stop;
-    let next = p.next;
-    if p.refused {
-        let profiles = no_profiles();
-        return ProfilesRead {
-            refused: true,
-            stop,
-            profiles,
-            rules: 0,
-        };
-    }
-    profiles_at(text, vars, p.count, sizes, allowed, next)
-}
-
-// Judges a whole text, where so many rules have room, 512 at most, and sets its variables in the table. What stood there before is of no
-// matter.
-pub fn read(text: &[u8], vars: &mut [usize; 1120], rooms: usize) -> FileRead
-    ensures result_after { seen_file text.now vars.new result ≡ judged_of text.now (file_within (min 512 rooms) text.now) }
-    ensures kept { FileKept text.now vars.new (min 512 rooms) result }
-{
-    let p = preamble_at(text, vars);
+    let p = preamble_at(text, vars)?;
     let n = p.count;
     let known = sizes_of(text, vars, n);
-    let ps = profiles_of(text, vars, p, &known.table, least(RULES, rooms));
+    let ps = profiles_at(text, vars, n, &known.table, allowed, p.next)?;
     let found = ps.profiles;
     let profiles = found.table;
-    let stop = ps.stop;
-    FileRead {
-        refused: ps.refused,
-        refusal: refusal_of(ps.refused, text, stop),
+    Ok(FileRead {
         vars: n,
         profiles,
         count: found.count,
         rules: ps.rules,
+    })
+}
+
+// Judges a whole text, where so many rules have room, 512 at most, and sets its variables in the table. What stood there before is of no
+// matter.
+pub fn read(text: &[u8], vars: &mut [usize; 1120], rooms: usize) -> Result<FileRead, Refusal>
+    ensures result_after { seen_file text.now vars.new result ≡ judged_of text.now (file_within (min 512 rooms) text.now) }
+    ensures kept { IfOk result (λ f. FileKept text.now vars.new (min 512 rooms) f) }
+{
+    match file_at(text, vars, least(RULES, rooms)) {
+        Ok(f) => Ok(f),
+        Err(stop) => Err(refusal_at(text, stop)),
     }
 }

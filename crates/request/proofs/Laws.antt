@@ -88,6 +88,11 @@ pub broken-block : (s : List ℕ) → broken_in 16 s ≡ (holds nul (take 16 s) 
 unfolding broken_in
 broken-block s = refl
 
+-- a block more
+pub broken-more_block : (s : List ℕ) (n : ℕ) (w x y : Bool) → x ≡ (w || broken_in n s) → y ≡ (holds nul (take 16 (drop n s)) || doubled (take 17 (drop n s))) →
+    (x || y) ≡ (w || broken_in (n + 16) s)
+broken-more_block s n w x y e f = rw (broken-add n 16 s, e, f ∙ sym (broken-block (drop n s))) (or_assoc w (broken_in n s) (broken_in 16 (drop n s)))
+
 pub broken-all : (s : List ℕ) → broken_in (length s) s ≡ (holds nul s || doubled s)
 unfolding broken_in
 broken-all s = rw (take-length s, take_all (suc (length s)) s (omega arith))

@@ -14,11 +14,9 @@ fn is_block_broken(path: &[u8], at: usize) -> bool
     ensures { result ≡ (holds nul (take 16 (drop at path.now)) || doubled (take 17 (drop at path.now))) }
 {
     let mut broken = false;
-    let mut i = 0;
-    while i < 16 {
+    for i in 0..16 {
         let byte = path[at + i];
         broken = broken | (byte == 0) | ((byte == b'/') & (path[at + i + 1] == b'/'));
-        i += 1;
     }
     broken
 }
@@ -29,13 +27,10 @@ fn is_short_broken(path: &[u8]) -> bool
 {
     let mut broken = false;
     let mut slash = false;
-    let mut i = 0;
-    while i < path.len() {
-        let b = path[i];
-        let here = b == b'/';
-        broken = broken | (b == 0) | (slash & here);
+    for b in path {
+        let here = *b == b'/';
+        broken = broken | (*b == 0) | (slash & here);
         slash = here;
-        i += 1;
     }
     broken
 }
@@ -51,10 +46,8 @@ fn is_broken(path: &[u8]) -> bool
     }
     let last = n - 17;
     let mut broken = is_block_broken(path, last) | (path[n - 1] == 0);
-    let mut at = 0;
-    while at < last {
+    for at in (0..last).step_by(16) {
         broken = broken | is_block_broken(path, at);
-        at += 16;
     }
     broken
 }

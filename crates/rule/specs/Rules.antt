@@ -1,8 +1,8 @@
 -- The rules of a profile, as read from a text.
-use Rattle.std.specs.Prelude.{ℕ, zero, suc, ◌+◌, List, [], ◌∷◌, Bool, true, false, ◌||◌, ◌&&◌, if◌then◌else◌}
+use Rattle.std.specs.Prelude.{ℕ, zero, suc, ◌+◌, List, [], ◌∷◌, Bool, true, false, ◌||◌, ◌&&◌, if◌then◌else◌, Option}
 use Rattle.scan.specs.Bytes.{bytes}
 use Rattle.perms.specs.declared.Perms.{Perms}
-use Rattle.modes.specs.declared.Transition.{Transition}
+use Rattle.modes.specs.declared.Mode.{Mode}
 use Rattle.text.specs.Reading.{Reading, Read, Refused, ◌>>=◌, refuse_if, judged}
 use Rattle.tokens.specs.Tokens.{Token, Next, Found, Stopped, End, is_word, no_stop, token_at, wanted}
 use Rattle.blanks.specs.Blanks.{standing, stands_at}
@@ -16,7 +16,7 @@ pub record Rule : Type 0 where
   pub owner : Bool
   pub pattern : List ℕ
   pub perms : Perms
-  pub transition : Transition
+  pub transition : Option Mode
   pub target : List ℕ
 
 -- ---- "[audit] [allow|deny] [owner] PATTERN"

@@ -2,15 +2,15 @@
 #![tactic(auto)]
 
 ghost use Rattle.std.specs.Prelude.{◌≡◌};
-ghost use Rattle.tokens.specs.Tokens.{no_stop, token_at, wanted};
-ghost use Rattle.tokens.specs.Places.{seen};
+ghost use Rattle.tokens.specs.Tokens.{no_stop, token_at};
+ghost use Rattle.tokens.specs.Places.{seen, seen_token};
 ghost use Rattle.rule.specs.Rules.{pattern_from};
 ghost use Rattle.rule.specs.Places.{Denied, Qualified, Taken, seen_qualifiers};
 
-use modes::Transition;
+use modes::Mode;
 use perms::Perms;
-use text::{NOT_TAKEN, Place, Span};
-use tokens::Read;
+use text::{NOT_TAKEN, Place, Span, Stop};
+use tokens::{Read, Token};
 
 // ---- a rule
 
@@ -22,7 +22,7 @@ pub struct Rule {
     pub deny: bool,
     pub owner: bool,
     pub perms: Perms,
-    pub transition: Transition,
+    pub transition: Option<Mode>,
     pub pattern: Span,
     pub target: Span,
 }
@@ -119,26 +119,23 @@ pub fn qualifiers_at(text: &[u8], at: Place) -> Qualifiers
 // ---- the pattern
 
 // The token of the pattern after the qualifiers.
-pub fn pattern_at(text: &[u8], q: Qualifiers) -> Read
-    ensures { wanted (seen text.now result) ≡ pattern_from text.now (seen text.now q.token) (seen_qualifiers q) }
+pub fn pattern_at(text: &[u8], q: Qualifiers) -> Result<Token, Stop>
+    ensures { seen_token text.now result ≡ pattern_from text.now (seen text.now q.token) (seen_qualifiers q) }
 {
     let next = q.next;
-    let token = q.token;
     if keywords::is_not_taken(text, next, true) {
-        return Read::Stopped {
+        return Err(Stop {
             number: NOT_TAKEN,
             place: blanks::standing_at(text, next),
-        };
+        });
     }
-    let Read::Found(t) = token else {
-        return token;
-    };
+    let token = q.token;
+    let t = token.token()?;
     if q.some & tokens::is_word(text, t, b"{") {
-        let start = t.start;
-        return Read::Stopped {
+        return Err(Stop {
             number: NOT_TAKEN,
-            place: start,
-        };
+            place: t.start,
+        });
     }
-    token
+    Ok(t)
 }

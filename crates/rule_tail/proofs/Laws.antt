@@ -11,5 +11,5 @@ use Rattle.tokens.specs.contracts.Read.{the_type}
 
 pub not-token : (r : Read) → ((t : code.Token) → r ≡ read.Found t → ⊥) → OneOf (1 ∷ 2 ∷ []) (tag_of the_type r)
 not-token (read.Found t) h = absurd (h t refl)
-not-token (read.Stopped n p) h = inl refl
+not-token (read.Stopped stop) h = inl refl
 not-token (read.End p) h = inr refl

@@ -1,16 +1,14 @@
 -- What the code's values mean over the text.
-use Rattle.std.specs.Prelude.{ℕ, List, not, length, ltb}
+use Rattle.std.specs.Prelude.{ℕ, List, Result, not, length, ltb}
 use Rattle.text.specs.Reading.{Reading, Read, ◌>>=◌, refuse_if}
-use Rattle.text.specs.Places.{refused_by, span_of}
+use Rattle.text.specs.Places.{seen_by, span_of}
+use Rattle.text.specs.declared.Place.{Place}
+use Rattle.text.specs.declared.Stop.{Stop}
 use Rattle.tokens.specs.Tokens.{comma, token_at, wanted}
 use Rattle.names.specs.Names.{name_form}
 use Rattle.rule_tail.specs.Tails.{Permissions, Target}
 use Rattle.rule_tail.specs.declared.PermsRead.{PermsRead}
-use Rattle.rule_tail.specs.declared.PermsRead.TheVariants as perms
 use Rattle.rule_tail.specs.declared.TargetRead.{TargetRead}
-use Rattle.rule_tail.specs.declared.TargetRead.TheVariants as target
-use Rattle.rule_tail.specs.declared.CommaRead.{CommaRead}
-use Rattle.rule_tail.specs.declared.CommaRead.TheVariants as comma-read
 
 -- the target after a ->
 unfoldable pub target_after : List ℕ → ℕ → Reading Target
@@ -21,14 +19,11 @@ target_after s at = do
   Read (record { target = t.content; next = t.next })
 
 -- what was read, or the refusal
-unfoldable pub seen_perms : PermsRead → Reading Permissions
-seen_perms (perms.Good p t n) = Read (record { perms = p; transition = t; next = n.0 })
-seen_perms (perms.Refused stop) = refused_by stop
+abbrev pub seen_perms : Result PermsRead Stop → Reading Permissions
+seen_perms r = seen_by (λ p. record { perms = p.perms; transition = p.transition; next = p.next.0 }) r
 
-unfoldable pub seen_target : List ℕ → TargetRead → Reading Target
-seen_target s (target.Good t n) = Read (record { target = span_of s t; next = n.0 })
-seen_target s (target.Refused stop) = refused_by stop
+abbrev pub seen_target : List ℕ → Result TargetRead Stop → Reading Target
+seen_target s r = seen_by (λ t. record { target = span_of s t.target; next = t.next.0 }) r
 
-unfoldable pub seen_comma : CommaRead → Reading ℕ
-seen_comma (comma-read.Good n) = Read n.0
-seen_comma (comma-read.Refused stop) = refused_by stop
+abbrev pub seen_comma : Result Place Stop → Reading ℕ
+seen_comma r = seen_by (λ p. p.0) r

@@ -1,13 +1,11 @@
 -- What follows the pattern of a rule: "PERMS [-> TARGET] ,"
-use Rattle.std.specs.Prelude.{ℕ, ◌+◌, List, [], Bool, true, false, not, ◌||◌, length, ltb}
+use Rattle.std.specs.Prelude.{ℕ, ◌+◌, List, [], Option, Some, None, Bool, true, false, not, ◌||◌, length, ltb}
 use Rattle.scan.specs.Bytes.{bytes}
 use Rattle.perms.specs.declared.Perms.{Perms}
 use Rattle.modes.specs.declared.Kind.{Kind}
 use Rattle.modes.specs.declared.Kind.TheVariants as kind
-use Rattle.modes.specs.declared.Transition.{Transition}
-use Rattle.modes.specs.declared.Transition.TheVariants as transition
+use Rattle.modes.specs.declared.Mode.{Mode}
 use Rattle.perms_word.specs.declared.Word.{Word}
-use Rattle.perms_word.specs.declared.Word.TheVariants as word
 use Rattle.perms_word.specs.Words.{word_of}
 use Rattle.text.specs.Reading.{Reading, Read, Refused, ◌>>=◌, refuse_if}
 use Rattle.blanks.specs.Blanks.{standing, stands_at}
@@ -21,19 +19,19 @@ leads_to_profile kind.Profile = true
 leads_to_profile kind.Child = true
 leads_to_profile kind.Inherit = false
 
-abbrev pub takes_target : Transition → Bool
-takes_target transition.Absent = false
-takes_target (transition.ByMode m) = leads_to_profile m.kind
+abbrev pub takes_target : Option Mode → Bool
+takes_target None = false
+takes_target (Some m) = leads_to_profile m.kind
 
 pub record Permissions : Type 0 where
   pub perms : Perms
-  pub transition : Transition
+  pub transition : Option Mode
   pub next : ℕ
 
 -- "Any other PERMS is 8."
-abbrev pub carried_by : Token → Word → Reading Permissions
-carried_by t (word.Carries p tr) = Read (record { perms = p; transition = tr; next = t.next })
-carried_by t word.Bad = Refused 8 t.start
+abbrev pub carried_by : Token → Option Word → Reading Permissions
+carried_by t (Some w) = Read (record { perms = w.perms; transition = w.transition; next = t.next })
+carried_by t None = Refused 8 t.start
 
 -- "PERMS end at a blank or comma. Missing or quoted PERMS is 4"
 unfoldable pub perms_at : (deny : Bool) → List ℕ → ℕ → Reading Permissions
@@ -47,7 +45,7 @@ pub record Target : Type 0 where
   pub next : ℕ
 
 -- the target where a -> stands, which "needs no blank after it"; "TARGET has the form of a name", "over 255 bytes are 9"
-unfoldable pub target_at : Transition → List ℕ → ℕ → Reading Target
+unfoldable pub target_at : Option Mode → List ℕ → ℕ → Reading Target
 target_at tr s at =
     elim (stands_at (bytes "->") s at) [
       | false ↦ Read (record { target = []; next = at })

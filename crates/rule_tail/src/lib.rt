@@ -5,164 +5,132 @@ ghost use Rattle.std.specs.Prelude.{◌≡◌};
 ghost use Rattle.rule_tail.specs.Tails.{comma_at, leads_to_profile, perms_at, takes_target, target_at};
 ghost use Rattle.rule_tail.specs.Places.{seen_comma, seen_perms, seen_target, target_after};
 
-use modes::{Kind, Transition};
+use modes::{Kind, Mode};
 use names::NAME_BYTES;
 use perms::Perms;
-use perms_word::Word;
+use perms_word::read_word;
 use text::{BAD_FORM, BAD_PERMS, Place, Span, Stop, TOO_MUCH};
-use tokens::Read;
+use tokens::next_token;
 
-// What PERMS carry and where reading goes on, or the refusal.
+// What PERMS carry, and where reading goes on.
 #[derive(Clone, Copy)]
-pub enum PermsRead {
-    Good {
-        perms: Perms,
-        transition: Transition,
-        next: Place,
-    },
-    Refused(Stop),
+pub struct PermsRead {
+    pub perms: Perms,
+    pub transition: Option<Mode>,
+    pub next: Place,
 }
 
 // The PERMS at a place.
-pub fn perms_at(text: &[u8], deny: bool, at: Place) -> PermsRead
+pub fn perms_at(text: &[u8], deny: bool, at: Place) -> Result<PermsRead, Stop>
     ensures { seen_perms result ≡ perms_at deny text.now at.0 }
 {
-    let r = tokens::next_token(text, at, b',');
-    let Read::Found(t) = r else {
-        return PermsRead::Refused(tokens::stop_of(r));
-    };
-    let start = t.start;
+    let t = next_token(text, at, b',').token()?;
+    let place = t.start;
     if t.quoted | tokens::is_word(text, t, b",") {
-        return PermsRead::Refused(Stop {
+        return Err(Stop {
             number: BAD_FORM,
-            place: start,
+            place,
         });
     }
     let word = tokens::content(text, t);
-    let w = perms_word::read_word(word, deny);
-    let Word::Carries { perms, transition } = w else {
-        return PermsRead::Refused(Stop {
+    let Some(w) = read_word(word, deny) else {
+        return Err(Stop {
             number: BAD_PERMS,
-            place: start,
+            place,
         });
     };
-    let next = t.next;
-    PermsRead::Good {
-        perms,
-        transition,
-        next,
-    }
+    Ok(PermsRead {
+        perms: w.perms,
+        transition: w.transition,
+        next: t.next,
+    })
 }
 
-// A target, an empty span where there is none, and where reading goes on, or the refusal.
+// A target, an empty span where there is none, and where reading goes on.
 #[derive(Clone, Copy)]
-pub enum TargetRead {
-    Good { target: Span, next: Place },
-    Refused(Stop),
+pub struct TargetRead {
+    pub target: Span,
+    pub next: Place,
 }
 
 // Whether a mode leads to another profile.
 fn leads_to_profile(kind: Kind) -> bool
     ensures { result ≡ leads_to_profile kind }
 {
-    match kind {
-        Kind::Unconfined => false,
-        Kind::Profile => true,
-        Kind::Child => true,
-        Kind::Inherit => false,
-    }
+    matches!(kind, Kind::Profile | Kind::Child)
 }
 
 // Whether a target may follow: only after p and c modes.
-pub fn takes_target(transition: Transition) -> bool
+pub fn takes_target(transition: Option<Mode>) -> bool
     ensures { result ≡ takes_target transition }
 {
     match transition {
-        Transition::Absent => false,
-        Transition::ByMode(m) => {
-            let kind = m.kind;
-            leads_to_profile(kind)
-        }
+        None => false,
+        Some(m) => leads_to_profile(m.kind),
     }
 }
 
 // The target after a ->.
-fn target_after(text: &[u8], at: Place) -> TargetRead
+fn target_after(text: &[u8], at: Place) -> Result<TargetRead, Stop>
     ensures { seen_target text.now result ≡ target_after text.now at.0 }
 {
-    let r = tokens::next_token(text, at, b',');
-    let Read::Found(t) = r else {
-        return TargetRead::Refused(tokens::stop_of(r));
-    };
-    let start = t.start;
+    let t = next_token(text, at, b',').token()?;
+    let place = t.start;
     let name = tokens::content(text, t);
     if !names::name_form(name, t.quoted) {
-        return TargetRead::Refused(Stop {
+        return Err(Stop {
             number: BAD_FORM,
-            place: start,
+            place,
         });
     }
     if NAME_BYTES < name.len() {
-        return TargetRead::Refused(Stop {
+        return Err(Stop {
             number: TOO_MUCH,
-            place: start,
+            place,
         });
     }
-    let from = t.from;
-    let end = t.end;
-    let next = t.next;
-    TargetRead::Good {
-        target: Span { from, end },
-        next,
-    }
+    Ok(TargetRead {
+        target: Span {
+            from: t.from,
+            end: t.end,
+        },
+        next: t.next,
+    })
 }
 
 // The target at a place, if a -> stands there.
-pub fn target_at(text: &[u8], transition: Transition, at: Place) -> TargetRead
+pub fn target_at(text: &[u8], transition: Option<Mode>, at: Place) -> Result<TargetRead, Stop>
     ensures { seen_target text.now result ≡ target_at transition text.now at.0 }
 {
     if blanks::stands_at(text, at, b"->") {
         let arrow = blanks::standing_at(text, at);
         if takes_target(transition) {
-            let from = arrow.0;
-            return target_after(text, Place(from + 2));
+            return target_after(text, Place(arrow.0 + 2));
         }
-        return TargetRead::Refused(Stop {
+        return Err(Stop {
             number: BAD_PERMS,
             place: arrow,
         });
     }
-    TargetRead::Good {
+    Ok(TargetRead {
         target: Span {
             from: Place(0),
             end: Place(0),
         },
         next: at,
-    }
+    })
 }
 
-// Where reading goes on after the comma, or the refusal.
-#[derive(Clone, Copy)]
-pub enum CommaRead {
-    Good(Place),
-    Refused(Stop),
-}
-
-// The comma that ends a rule.
-pub fn comma_at(text: &[u8], at: Place) -> CommaRead
+// The comma that ends a rule: where reading goes on after it.
+pub fn comma_at(text: &[u8], at: Place) -> Result<Place, Stop>
     ensures { seen_comma result ≡ comma_at text.now at.0 }
 {
-    let r = tokens::next_token(text, at, b',');
-    let Read::Found(t) = r else {
-        return CommaRead::Refused(tokens::stop_of(r));
-    };
+    let t = next_token(text, at, b',').token()?;
     if tokens::is_word(text, t, b",") {
-        let next = t.next;
-        return CommaRead::Good(next);
+        return Ok(t.next);
     }
-    let start = t.start;
-    CommaRead::Refused(Stop {
+    Err(Stop {
         number: BAD_FORM,
-        place: start,
+        place: t.start,
     })
 }

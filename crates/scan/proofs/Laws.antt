@@ -5,12 +5,25 @@ use mathlib.Core.List.{List, [], ◌∷◌, ◌++◌}
 use mathlib.Core.Bool.{Bool, true, false, ◌&&◌, ◌||◌, or_assoc, false≢true}
 use lib.ListN.{length, get_or, take, drop, drop_of_length-le, length-drop, length-take}
 use lib.Seq.{drop-cons, take_all, take-nil, drop-drop, take-take}
+use lib.Pointwise.{pointwise}
 use lib.Dec.{eqb, ltb, eqb-zero-suc, eqb-suc-suc}
 use native.Mathlib.Nat.{zero-add, suc-add, not-suc-le-zero, le_of_suc-le-suc}
 use native.Mathlib.Numerals.{add-one}
 use native.Mathlib.Omega.{arith}
 use borrow.Author.Tests.{ltb-true, ltb-false, eq-eqb, ne_eqb, eqb-true, eqb-false}
+use Rattle.std.specs.List.{list_all, list_any}
+use Rattle.std.proofs.Common.{Option}
+use Rattle.std.specs.Option.{MatchOption, unwrap_or}
+use Rattle.std.specs.List.{AllWithin, HoldsAt}
+use Rattle.std.proofs.lemmas.Iterator.{index_from_first}
 use Rattle.scan.specs.Bytes.{begins, same, holds, some, every, run, span}
+
+eqb-comm : (a b : ℕ) → eqb a b ≡ eqb b a
+eqb-comm a b = go (eqb a b) refl
+  where
+    go : (x : Bool) → eqb a b ≡ x → x ≡ eqb b a
+    go true e = sym (eq-eqb b a (sym (eqb-true a b e)))
+    go false e = sym (ne_eqb b a λ q. eqb-false a b e (sym q))
 
 -- a byte at a place, and none at the end
 module _ (b : ℕ) (s : List ℕ) (i : ℕ) where
@@ -190,3 +203,50 @@ span_rest s k = take_all (length s - k) (drop k s) (omega (arith, length-drop k 
 pub no_length : {A : Type 0} (l : List A) → length l ≡ 0 → l ≡ []
 no_length [] e = refl
 no_length (x ∷ l) e = absurd (omega arith)
+
+-- the library's words: of bytes looked for, of bytes compared, and of the first byte that is not of a kind
+pub holds-any : (a : ℕ) (s : List ℕ) → holds a s ≡ list_any (λ y. eqb y a) s
+unfolding some
+holds-any a [] = refl
+holds-any a (b ∷ s) = ap₂ ◌||◌ (eqb-comm a b) (holds-any a s)
+
+pub same-pointwise : (s t : List ℕ) → same s t ≡ pointwise eqb s t
+unfolding same
+same-pointwise [] [] = refl
+same-pointwise [] (b ∷ t) = refl
+same-pointwise (a ∷ s) [] = refl
+same-pointwise (a ∷ s) (b ∷ t) = go (eqb a b) (same-pointwise s t)
+  where
+    go : (x : Bool) → same s t ≡ pointwise eqb s t → elim x as (λ _. Bool) [ true ↦ same s t | false ↦ false ] ≡ (x && pointwise eqb s t)
+    go true e = e
+    go false e = refl
+
+-- a run goes up to the first byte that is not of its kind
+pub run-index : (p : ℕ → Bool) (s : List ℕ) (r : Option ℕ) →
+    MatchOption r (AllWithin (λ b. p b ≡ true) s 0 (length s)) (λ i. (i < length s) × HoldsAt (λ b. p b ≡ false) s i × AllWithin (λ b. p b ≡ true) s 0 i) →
+    run p s ≡ unwrap_or r (length s)
+unfolding run
+run-index p s r = index_from_first (run p) (λ b. p b ≡ false) (λ b. p b ≡ true) refl (λ x xs e. rw (e, run)) (λ x xs e. rw (e, run, add-one)) s r
+
+-- every and some are the library's words
+pub every_all : {A : Type 0} (p : A → Bool) (xs : List A) → every p xs ≡ list_all p xs
+unfolding every
+every_all p [] = refl
+every_all p (x ∷ xs) = ap (λ (b : Bool). p x && b) (every_all p xs)
+
+pub some_any : {A : Type 0} (p : A → Bool) (xs : List A) → some p xs ≡ list_any p xs
+unfolding some
+some_any p [] = refl
+some_any p (x ∷ xs) = ap (λ (b : Bool). p x || b) (some_any p xs)
+
+-- a word is compared from its own side too
+pub same-turned : (s t : List ℕ) → same s t ≡ pointwise eqb t s
+unfolding same
+same-turned [] [] = refl
+same-turned [] (b ∷ t) = refl
+same-turned (a ∷ s) [] = refl
+same-turned (a ∷ s) (b ∷ t) = go (eqb a b) (eqb b a) (eqb-comm a b) (same-turned s t)
+  where
+    go : (x y : Bool) → x ≡ y → same s t ≡ pointwise eqb t s → elim x as (λ _. Bool) [ true ↦ same s t | false ↦ false ] ≡ (y && pointwise eqb t s)
+    go true y e f = rw (← e) f
+    go false y e f = rw (← e)

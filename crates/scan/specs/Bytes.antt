@@ -1,5 +1,5 @@
 -- Bytes as numbers, words as lists of them, runs of one kind.
-use Rattle.std.specs.Prelude.{ℕ, suc, ◌-◌, List, [] as []ᴸ, ◌∷◌ as ◌∷ᴸ◌, Bool, true, false, ◌||◌, ◌&&◌, length, take, drop, eqb, leb}
+use Rattle.std.specs.Prelude.{◌≡◌, ℕ, suc, ◌+◌, ◌-◌, ◌<◌, List, [] as []ᴸ, ◌∷◌ as ◌∷ᴸ◌, Bool, true, false, ◌||◌, ◌&&◌, length, take, drop, eqb, leb}
 use Prim.Native.Char.{code}
 use Prim.Native.String.{String, [], ◌∷◌}
 
@@ -59,3 +59,7 @@ letter b = between (code "a") (code "z") b || between (code "A") (code "Z") b
 
 abbrev pub digit : ℕ → Bool
 digit b = between (code "0") (code "9") b
+
+-- a place ends the run, from a place on, of the bytes that a test takes; what the test gives is told by a relation
+abbrev pub EndsRun : (ℕ → Bool → Type 0) → List ℕ → (at end : ℕ) → Type 0
+EndsRun gives s at end = (p : ℕ → Bool) → ((b : ℕ) (r : Bool) → b < 256 → gives b r → r ≡ p b) → end ≡ at + run p (drop at s)

@@ -2,37 +2,20 @@
 #![tactic(auto)]
 
 ghost use Rattle.std.specs.Prelude.{◌≡◌, min, drop};
-ghost use Rattle.scan.specs.Bytes.{begins, between, span, same, holds};
+ghost use Rattle.scan.specs.Bytes.{begins, between, span, same, holds, EndsRun};
 
 // Whether two slices hold the same bytes.
 pub fn same_bytes(a: &[u8], b: &[u8]) -> bool
     ensures { result ≡ same a.now b.now }
 {
-    if a.len() != b.len() {
-        return false;
-    }
-    let mut i = 0;
-    while i < a.len() {
-        if a[i] != b[i] {
-            return false;
-        }
-        i += 1;
-    }
-    true
+    a == b
 }
 
 // Whether a byte stands in a slice.
 pub fn holds_byte(s: &[u8], b: u8) -> bool
     ensures { result ≡ holds b s.now }
 {
-    let mut i = 0;
-    while i < s.len() {
-        if s[i] == b {
-            return true;
-        }
-        i += 1;
-    }
-    false
+    s.contains(&b)
 }
 
 // The bytes of a text from place a to before place e, as many as there are.
@@ -73,4 +56,13 @@ pub fn is_between(low: u8, high: u8, b: u8) -> bool
     ensures { result ≡ between low high b }
 {
     (low <= b) & (b <= high)
+}
+
+// The place after the bytes that a test takes, from a place on.
+pub fn end_of<F: Fn(u8) -> bool>(s: &[u8], at: usize, takes: F) -> usize
+    requires { F.IsAlwaysCallable takes }
+    ensures { EndsRun (F.post takes) s.now at result }
+{
+    let rest = span(s, at, s.len());
+    at + rest.iter().position(|b| !takes(*b)).unwrap_or(rest.len())
 }

@@ -2,8 +2,6 @@
 #![tactic(auto)]
 
 ghost use Rattle.std.specs.Prelude.{◌≡◌, ◌++◌, not, eqb, ltb, length, drop, if◌then◌else◌};
-ghost use Rattle.text.specs.Reading.{nowhere};
-ghost use Rattle.answer.specs.Answers.{refusal};
 ghost use Rattle.entries.specs.Entries.{policy_in};
 ghost use Rattle.asking.specs.Asking.{asked_of, match_at};
 ghost use Rattle.flat.specs.Layout.{records_in};
@@ -11,9 +9,9 @@ ghost use Rattle.decide.specs.Decide.{answer_of};
 ghost use Rattle.layout.specs.Layout.{laid_out};
 ghost use Rattle.sidluqethe.specs.Told.{FilledBy, bytes_told, match_number, read_into, told_in};
 
-use answer::{Answer, refused};
+use answer::refused;
 use decide::decide;
-use entries::Reading;
+use entries::Unread;
 use flat::{ask_brief, match_at, read};
 use glob::Matched;
 use layout::{ANSWER, write, write_brief};
@@ -42,17 +40,6 @@ pub extern "C" fn sidluqethe_decide(
 
 // ---- read once, ask often
 
-// The refusal of a text as an answer; all 0 where the text is accepted.
-fn as_answer(reading: Reading) -> Answer
-    ensures { result ≡ (if reading.refused then refusal reading.refusal else refusal (nowhere 0)) }
-{
-    let refusal = reading.refusal;
-    if reading.refused {
-        return refused(refusal);
-    }
-    refused(nowhere(0))
-}
-
 // Reads a text into memory, writes its refusal into the buffer as an answer, and says how many bytes that has, or 0 where the
 // buffer or the memory is too short: then both stay as they were.
 #[unsafe(no_mangle)]
@@ -61,13 +48,15 @@ pub extern "C" fn sidluqethe_read(text: &[u8], memory: &mut [usize], buffer: &mu
     ensures written { buffer.new ≡ told_in buffer.old (read_into (length buffer.old) (length memory.old) text.now) }
     ensures filled { FilledBy text.now memory.old (read_into (length buffer.old) (length memory.old) text.now) memory.new }
 {
-    if ANSWER <= buffer.len() {
-        let reading = read(text, memory);
-        if !reading.short {
-            return write(buffer, as_answer(reading));
-        }
+    if buffer.len() < ANSWER {
+        return 0;
     }
-    0
+    match read(text, memory) {
+        // all 0 where the text is accepted
+        Ok(_) => write(buffer, refused(nowhere(0))),
+        Err(Unread::Refused(refusal)) => write(buffer, refused(refusal)),
+        Err(Unread::Short) => 0,
+    }
 }
 
 // Writes the answer of what memory holds of the text, as sidluqethe_decide does.

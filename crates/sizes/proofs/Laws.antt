@@ -6,7 +6,7 @@ use mathlib.Core.Bool.{Bool, true, false, not, ◌||◌, ◌&&◌}
 use lib.ListN.{length, length-append}
 use lib.Dec.{eqb, leb, ltb}
 use borrow.Author.Tests.{ne_eqb, leb-true, leb-false, lt-ltb, le-ltb, ltb-true, ltb-false}
-use native.Mathlib.Nat.{mul-zero, zero-mul, min-eq_left, min-eq_right, mul-le-mul_left, mul-le-mul_right, mul_comm, mul-one, le_trans, min-zero}
+use native.Mathlib.Nat.{mul-zero, zero-mul, min-eq_left, min-eq_right, mul-le-mul_left, mul_comm, mul-one, le_trans, min-zero}
 use native.Mathlib.Omega.{arith}
 use Rattle.scan.specs.Bytes.{every, some}
 use Rattle.pattern.specs.Pieces.{Piece}
@@ -136,9 +136,6 @@ sat-max k n m = omega arith
 
 pub le-mul : (k j : ℕ) → 1 ≤ j → k ≤ k * j
 le-mul k j h = rw mul-one at (mul-le-mul_left k h)
-
-pub mul-bound : (a b k : ℕ) → a ≤ k → b ≤ k → a * b ≤ k * k
-mul-bound a b k h g = le_trans (mul-le-mul_left a g) (mul-le-mul_right k h)
 
 big : (k n m : ℕ) → 1 ≤ k → k ≤ n → min k (k * min k m) ≡ min k (n * m)
 big k n zero o h = rw (min-zero k, mul-zero k, mul-zero n)

@@ -34,11 +34,11 @@ pub record Passed (size rest whole : Size) : Type 0 where
 sized-cut : (xs : List (List Piece)) → times_of (size_of xs) nil_size ≡ size_of xs
 sized-cut xs = ap (times_of (size_of xs)) (sym size-nil) ∙ size-across xs ([] ∷ []) ∙ ap size_of (across-one xs)
 
-passed_first : {size rest whole : Size} (xs : List (List Piece)) → size ≡ size_of xs → whole ≡ times_of (size_of xs) rest → Passed size rest whole
+pub passed_first : {size rest whole : Size} (xs : List (List Piece)) → size ≡ size_of xs → whole ≡ times_of (size_of xs) rest → Passed size rest whole
 passed_first xs e w = record { together = rw e (sym w); cut = rw e (sized-cut xs) }
 
 -- two neighbours more
-passed-two : {size x y one two both next rest mid left whole : Size} → Passed size rest whole →
+pub passed-two : {size x y one two both next rest mid left whole : Size} → Passed size rest whole →
     one ≡ x → two ≡ y → both ≡ times_of one two → next ≡ times_of size both → rest ≡ times_of x mid → mid ≡ times_of y left → Passed next left whole
 passed-two {size = size} {x = x} {y = y} {left = left} p o t b n r m =
     let e = n ∙ ap (times_of size) (b ∙ ap₂ times_of o t) in
@@ -50,7 +50,7 @@ passed-two {size = size} {x = x} {y = y} {left = left} p o t b n r m =
       cut = ap (λ (z : Size). times_of z nil_size) e ∙ times_cut size (times_of x y) ∙ sym e;
     }
 
-passed-all : {size rest whole : Size} → Passed size rest whole → rest ≡ nil_size → size ≡ whole
+pub passed-all : {size rest whole : Size} → Passed size rest whole → rest ≡ nil_size → size ≡ whole
 passed-all {size = size} p e = sym p.cut ∙ ap (times_of size) (sym e) ∙ p.together
 
 -- ---- choices of several kinds: the size of the whole is that of those passed and of the rest
@@ -111,12 +111,12 @@ module _ (f : List ℕ → Numbered) where
     left : drop (run ordinary (drop i s)) (drop i s) ≡ drop next s
     left = drop-drop (run ordinary (drop i s)) i s ∙ ap (λ (k : ℕ). drop k s) (sym n)
 
-    parts-literals : (of_parts numbering f (parts 0 (drop i s))).size ≡ times_of (size_of (map Byte (span s i next) ∷ [])) (of_parts numbering f (parts 0 (drop next s))).size
+    pub parts-literals : (of_parts numbering f (parts 0 (drop i s))).size ≡ times_of (size_of (map Byte (span s i next) ∷ [])) (of_parts numbering f (parts 0 (drop next s))).size
     parts-literals =
         ap (λ (l : List Part). (of_parts numbering f l).size) (parts-run (drop i s)) ∙ literal-parts (take (run ordinary (drop i s)) (drop i s)) _
         ∙ ap₂ (λ (x l : List ℕ). times_of (size_of (map Byte x ∷ [])) (of_parts numbering f (parts 0 l)).size) taken left
 
-    items-literals : (of_items numbering f (items 0 (drop i s))).size ≡ times_of (size_of (map Byte (span s i next) ∷ [])) (of_items numbering f (items 0 (drop next s))).size
+    pub items-literals : (of_items numbering f (items 0 (drop i s))).size ≡ times_of (size_of (map Byte (span s i next) ∷ [])) (of_items numbering f (items 0 (drop next s))).size
     items-literals =
         ap (λ (l : List Item). (of_items numbering f l).size) (items-run (drop i s)) ∙ literal-items (take (run ordinary (drop i s)) (drop i s)) _
         ∙ ap₂ (λ (x l : List ℕ). times_of (size_of (map Byte x ∷ [])) (of_items numbering f (items 0 l)).size) taken left
@@ -142,7 +142,7 @@ pub name-size : {z : Size} {r : ℕ} (text vars table : List ℕ) (n : ℕ) (nam
     z ≡ (name_by text vars table n name).size
 name-size text vars table n name e d = e ∙ ap (size_at table) d ∙ sym (sizes-eq (name-number text vars table n name) ∙ number_size text vars table (number_of text vars n name))
 
--- ---- a loop over parts or items and the literals after each
+-- ---- the parts or items from a place on, the first of which has a size
 
 module _ (f : List ℕ → Numbered) (s : List ℕ) where
   abbrev pub parts_from : ℕ → Size
@@ -151,29 +151,19 @@ module _ (f : List ℕ → Numbered) (s : List ℕ) where
   abbrev pub items_from : ℕ → Size
   items_from at = (of_items numbering f (items 0 (drop at s))).size
 
-  pub parts_first : {size : Size} (end : ℕ) → end ≡ 0 + run ordinary (drop 0 s) → size ≡ size_of (map Byte (span s 0 end) ∷ []) → Passed size (parts_from end) (parts_from 0)
-  parts_first end e z = passed_first (map Byte (span s 0 end) ∷ []) z (parts-literals f s 0 end e)
+  module _ (at : ℕ) where
+    pub parts_end : length s ≤ at → parts_from at ≡ nil_size
+    parts_end h = sizes-eq (parts_last numbering f s at h)
 
-  pub items-first : {size : Size} (end : ℕ) → end ≡ 0 + run ordinary (drop 0 s) → size ≡ size_of (map Byte (span s 0 end) ∷ []) → Passed size (items_from end) (items_from 0)
-  items-first end e z = passed_first (map Byte (span s 0 end) ∷ []) z (items-literals f s 0 end e)
+    pub items_end : length s ≤ at → items_from at ≡ nil_size
+    items_end h = sizes-eq (items-last numbering f s at h)
 
-  module _ {size whole : Size} (at : ℕ) where
-    pub parts_all : Passed size (parts_from at) whole → length s ≤ at → size ≡ whole
-    parts_all p h = passed-all p (sizes-eq (parts_last numbering f s at h))
+    module _ (next : ℕ) (z : Size) (h : at < length s) where
+      pub parts_step : next ≡ part_end s at → z ≡ (of_part numbering f (part_at s at)).size → parts_from at ≡ times_of z (parts_from next)
+      parts_step n e = sizes-eq (parts_next numbering f s at (part_at s at) next h refl n) ∙ ap (λ (y : Size). times_of y (parts_from next)) (sym e)
 
-    pub items-all : Passed size (items_from at) whole → length s ≤ at → size ≡ whole
-    items-all p h = passed-all p (sizes-eq (items-last numbering f s at h))
-
-    -- what stands at a place has the size one, the literals after it the size two
-    module _ {one two both next : Size} (from end : ℕ) (e : end ≡ from + run ordinary (drop from s)) (l : two ≡ size_of (map Byte (span s from end) ∷ []))
-        (b : both ≡ times_of one two) (n : next ≡ times_of size both) where
-      pub parts_more : Passed size (parts_from at) whole → at < length s → (p : Part) → p ≡ part_at s at → from ≡ part_end s at →
-          one ≡ (of_part numbering f p).size → Passed next (parts_from end) whole
-      parts_more q h p i g o = passed-two q o l b n (sizes-eq (parts_next numbering f s at p from h i g)) (parts-literals f s from end e)
-
-      pub items_more : Passed size (items_from at) whole → at < length s → (p : Item) → p ≡ item_at s at → from ≡ item_end s at →
-          one ≡ (of_item numbering f p).size → Passed next (items_from end) whole
-      items_more q h p i g o = passed-two q o l b n (sizes-eq (items-next numbering f s at p from h i g)) (items-literals f s from end e)
+      pub items_step : next ≡ item_end s at → z ≡ (of_item numbering f (item_at s at)).size → items_from at ≡ times_of z (items_from next)
+      items_step n e = sizes-eq (items-next numbering f s at (item_at s at) next h refl n) ∙ ap (λ (y : Size). times_of y (items_from next)) (sym e)
 
 -- ---- a loop over the values of a variable or the alternatives of a span
 

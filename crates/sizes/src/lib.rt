@@ -1,10 +1,8 @@
 // The size of a list of expansions, and of lists put together.
 #![tactic(auto)]
 
-ghost use Rattle.std.specs.Prelude.{◌≡◌, max};
+ghost use Rattle.std.specs.Prelude.{◌≡◌};
 ghost use Rattle.sizes.specs.Sizes.{limit_of, times_of, plus_of};
-
-use scan::least;
 
 // The size of a list of expansions: how many there are, up to 257, and the most pieces of one, up to 1025;
 // whether one has no piece; whether each has no piece or begins with a literal /.
@@ -16,29 +14,20 @@ pub struct Size {
     pub slashed: bool,
 }
 
-fn most(a: usize, b: usize) -> usize
-    ensures { result ≡ max a b }
-{
-    if a < b { b } else { a }
-}
-
 fn limit(n: usize, m: usize) -> usize
     ensures { result ≡ limit_of n m }
 {
-    if n == 0 {
-        return 0;
-    }
-    least(1025, m)
+    if n == 0 { 0 } else { m.min(1025) }
 }
 
 // The size of neighbours.
 pub fn times(a: Size, b: Size) -> Size
     ensures { result ≡ times_of a b }
 {
-    let n = least(257, a.count) * least(257, b.count);
-    let m = least(1025, a.longest) + least(1025, b.longest);
+    let n = a.count.min(257) * b.count.min(257);
+    let m = a.longest.min(1025) + b.longest.min(1025);
     Size {
-        count: least(257, n),
+        count: n.min(257),
         longest: limit(n, m),
         empty: a.empty & b.empty,
         slashed: (n == 0) | (a.slashed & (!a.empty | b.slashed)),
@@ -49,10 +38,10 @@ pub fn times(a: Size, b: Size) -> Size
 pub fn plus(a: Size, b: Size) -> Size
     ensures { result ≡ plus_of a b }
 {
-    let n = least(257, a.count) + least(257, b.count);
+    let n = a.count.min(257) + b.count.min(257);
     Size {
-        count: least(257, n),
-        longest: most(least(1025, a.longest), least(1025, b.longest)),
+        count: n.min(257),
+        longest: a.longest.min(1025).max(b.longest.min(1025)),
         empty: a.empty | b.empty,
         slashed: a.slashed & b.slashed,
     }

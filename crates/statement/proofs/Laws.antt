@@ -10,22 +10,10 @@ use Rattle.text.specs.Reading.{Reading, Read, Refused, ◌>>=◌, judged}
 use Rattle.tokens.specs.Tokens.{Token}
 use Rattle.blanks.specs.Blanks.{standing, stands_at}
 use Rattle.blanks.proofs.Laws.{standing-settled}
-use Rattle.text.specs.Places.{refused_by}
-use Rattle.text.specs.declared.Place.{Place}
-use Rattle.text.specs.declared.Stop.{Stop}
 use Rattle.rule_tail.specs.Tails.{perms_at}
 use Rattle.rule.specs.Rules.{Rule, Qualifiers, RuleRead, RulesRead, Step, More, Close, body_at, end_at, followed, no_rules, pattern_at, qualifiers_at, rule_at, rule_end, rule_from, rules_at}
 use Rattle.rule.proofs.Laws.{Alike, alike, pattern-alike, rule-alike}
-use Rattle.tokens.specs.Places.{token_of}
-use Rattle.tokens.specs.declared.Token as token
-use Rattle.rule.specs.Places.{rule_of, seen_qualifiers}
-use Rattle.rule.specs.declared.Rule as rule
-use Rattle.rule.specs.declared.Qualifiers as qualifiers
-use Rattle.statement.specs.Steps.{Counted, Start, Closing, Starting, counted, counted_end, rule_then, rules_from, start_at, step_by, step_from}
-use Rattle.statement.specs.Places.{seen_start, seen_step}
-use Rattle.statement.specs.declared as code
-use Rattle.statement.specs.declared.Start.TheVariants as start
-use Rattle.statement.specs.declared.Step.TheVariants as step
+use Rattle.statement.specs.Steps.{Counted, Start, Closing, Starting, counted, counted_end, rule_then, rules_from, start_at, step_from}
 
 -- ---- a fault is refused
 
@@ -89,22 +77,17 @@ module _ (fault : List ℕ → ℕ) (s : List ℕ) (at k : ℕ) where
   pub count-end : counted_from k (rules_at 0 fault s at) ≡ counted_end k (end_at s at)
   count-end = ap (counted_from k) (rules-end fault s at) ∙ from_end k (end_at s at)
 
-  -- by what the code read
-  module _ (left : ℕ) {x : code.Step.Step} (e : seen_step s x ≡ rule_at fault s at) where
-    pub count-more : {r : rule.Rule} {n : Place} → x ≡ step.Rule r n →
-        counted_from k (rules_at (suc left) fault s at) ≡ counted_from (k + 1) (rules_at left fault s n.0)
-    unfolding seen_step
-    count-more {r} {n} q =
-        ap (counted_from k) (rules-more fault s at left (sym e ∙ ap (seen_step s) q))
-        ∙ from_more k (record { rule = rule_of s r; next = n.0 }) (rules_at left fault s n.0)
+  -- by what was read
+  module _ (left : ℕ) where
+    pub count-more : {r : RuleRead} → Read (More r) ≡ rule_at fault s at →
+        counted_from k (rules_at (suc left) fault s at) ≡ counted_from (k + 1) (rules_at left fault s r.next)
+    count-more {r} e = ap (counted_from k) (rules-more fault s at left (sym e)) ∙ from_more k r (rules_at left fault s r.next)
 
-    pub count-close : {n : Place} → x ≡ step.Close n → counted_from k (rules_at (suc left) fault s at) ≡ Read (record { count = k; next = n.0 })
-    unfolding seen_step
-    count-close {n} q = ap (counted_from k) (rules-close fault s at left (sym e ∙ ap (seen_step s) q)) ∙ from-close k n.0
+    pub count-close : {n : ℕ} → Read (Close n) ≡ rule_at fault s at → counted_from k (rules_at (suc left) fault s at) ≡ Read (record { count = k; next = n })
+    count-close {n} e = ap (counted_from k) (rules-close fault s at left (sym e)) ∙ from-close k n
 
-    pub count-refused : {stop : Stop} → x ≡ step.Refused stop → counted_from k (rules_at (suc left) fault s at) ≡ refused_by stop
-    unfolding seen_step
-    count-refused {stop} q = ap (counted_from k) (rules-refused fault s at left (sym e ∙ ap (seen_step s) q)) ∙ from-refused k stop.number stop.place.0
+    pub count-refused : {n p : ℕ} → Refused n p ≡ rule_at fault s at → counted_from k (rules_at (suc left) fault s at) ≡ Refused n p
+    count-refused {n} {p} e = ap (counted_from k) (rules-refused fault s at left (sym e)) ∙ from-refused k n p
 
 -- ---- a rule is the same from where it stands
 
@@ -135,27 +118,13 @@ start-step fault s at = go (stands_at (bytes "}") s at) (pattern_at s (qualifier
     go false (Refused n p) = refl
 
 -- from where it stands
-by-start : (fault : List ℕ → ℕ) (s : List ℕ) (at : ℕ) {place : ℕ} → place ≡ standing s at → {x : Reading Start} → x ≡ start_at s place →
+pub by-start : (fault : List ℕ → ℕ) (s : List ℕ) (at : ℕ) {place : ℕ} → place ≡ standing s at → {x : Reading Start} → x ≡ start_at s place →
     (x >>= step_from fault s) ≡ rule_at fault s at
 by-start fault s at {place} e {x} f =
     ap (λ (y : Reading Start). y >>= step_from fault s) f
     ∙ start-step fault s place
     ∙ ap (rule_at fault s) e
     ∙ rule-standing fault s at
-
--- by what the code found there
-module _ (fault : List ℕ → ℕ) (s : List ℕ) (at : ℕ) {place : ℕ} (e : place ≡ standing s at) {r : code.Start.Start} (f : seen_start s r ≡ start_at s place) where
-  pub by-close : {n : Place} → r ≡ start.Close n → Read (Close n.0) ≡ rule_at fault s at
-  unfolding seen_start
-  by-close g = rw (g, seen_start) at (by-start fault s at e f)
-
-  pub by-refused : {stop : Stop} → r ≡ start.Refused stop → refused_by stop ≡ rule_at fault s at
-  unfolding seen_start
-  by-refused g = rw (g, seen_start) at (by-start fault s at e f)
-
-  pub by-rule : {q : qualifiers.Qualifiers} {t : token.Token} → r ≡ start.Pattern q t → step_by (rule_from fault s (seen_qualifiers q) (token_of s t)) ≡ rule_at fault s at
-  unfolding seen_start
-  by-rule g = rw (g, seen_start) at (by-start fault s at e f)
 
 -- ---- what was read is read again without judging patterns
 

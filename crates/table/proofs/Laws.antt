@@ -26,35 +26,26 @@ use Rattle.asking.specs.declared.Query.{Query}
 use Rattle.asking.proofs.Laws.{asking-walked, walked}
 
 -- ---- a record more
-module _ (s : List ℕ) (vs : List Variable) (a : Access) (w : Words) (k : ℕ) (ys : List Record) (n i : ℕ) (d : Record) (f : Weighed) where
-  abbrev ms : List Record
-  ms = take n ys
-
+module _ (s : List ℕ) (vs : List Variable) (a : Access) (w : Words) (k : ℕ) (es : List Record) (i : ℕ) (d : Record) (f : Weighed) where
   abbrev gathers : List Record → Weighed → Weighed
-  gathers es g = gathered_in s vs a w k (map (entry_of s) es) g
+  gathers rs g = gathered_in s vs a w k (map (entry_of s) rs) g
 
-  -- the records from place i on are the record there and those behind it
-  from-here : n ≤ length ys → i < n → drop i ms ≡ get_or ys i d ∷ drop (i + 1) ms
-  from-here h l =
-      drop-cons ms i d (omega (arith, length-take-le n ys h)) ∙ ap (λ (r : Record). r ∷ drop (suc i) ms) (get_or-take n ys i d l)
-      ∙ ap (λ (j : ℕ). get_or ys i d ∷ drop j ms) (sym (add-one i))
-
-  pub gather-out : n ≤ length ys → i < n → out_of w k (entry_of s (get_or ys i d)) ≡ true → gathers (drop i ms) f ≡ gathers (drop (i + 1) ms) f
+  pub gather-out : i < length es → out_of w k (entry_of s (get_or es i d)) ≡ true → gathers (drop i es) f ≡ gathers (drop (i + 1) es) f
   unfolding gathered_in
-  gather-out h l e =
-      ap (λ (es : List Record). gathers es f) (from-here h l)
-      ∙ ap (λ (t : Bool). gathers (drop (i + 1) ms) (if t then f else weighed_entry s vs a (entry_of s (get_or ys i d)) f)) e
+  gather-out l e =
+      ap (λ (rs : List Record). gathers rs f) (drop-cons es i d l ∙ ap (λ (j : ℕ). get_or es i d ∷ drop j es) (sym (add-one i)))
+      ∙ ap (λ (t : Bool). gathers (drop (i + 1) es) (if t then f else weighed_entry s vs a (entry_of s (get_or es i d)) f)) e
 
-  pub gather-in : n ≤ length ys → i < n → out_of w k (entry_of s (get_or ys i d)) ≡ false
-      → gathers (drop i ms) f ≡ gathers (drop (i + 1) ms) (weighed_entry s vs a (entry_of s (get_or ys i d)) f)
+  pub gather-in : i < length es → out_of w k (entry_of s (get_or es i d)) ≡ false
+      → gathers (drop i es) f ≡ gathers (drop (i + 1) es) (weighed_entry s vs a (entry_of s (get_or es i d)) f)
   unfolding gathered_in
-  gather-in h l e =
-      ap (λ (es : List Record). gathers es f) (from-here h l)
-      ∙ ap (λ (t : Bool). gathers (drop (i + 1) ms) (if t then f else weighed_entry s vs a (entry_of s (get_or ys i d)) f)) e
+  gather-in l e =
+      ap (λ (rs : List Record). gathers rs f) (drop-cons es i d l ∙ ap (λ (j : ℕ). get_or es i d ∷ drop j es) (sym (add-one i)))
+      ∙ ap (λ (t : Bool). gathers (drop (i + 1) es) (if t then f else weighed_entry s vs a (entry_of s (get_or es i d)) f)) e
 
-  pub gather-end : n ≤ length ys → n ≤ i → gathers (drop i ms) f ≡ f
+  pub gather-end : length es ≤ i → gathers (drop i es) f ≡ f
   unfolding gathered_in
-  gather-end h l = ap (λ (es : List Record). gathers es f) (drop_of_length-le ms {i = i} (omega (arith, length-take-le n ys h)))
+  gather-end l = ap (λ (rs : List Record). gathers rs f) (drop_of_length-le es {i = i} l)
 
 -- ---- before and behind the walk
 module _ (s h : List ℕ) (n : ℕ) (m p : List ℕ) (asked : Perms) (owner : Bool) where

@@ -8,25 +8,25 @@ ghost use Rattle.asking.specs.Asking.{asked_of};
 
 use answer::Answer;
 use asking::{begin, conclude, is_out, weigh};
-use entries::{Reading, Record, judge, next_record, start};
+use entries::{Record, Unread, judge, next_record, start};
 use perms::Perms;
 use weigh::no_findings;
 
-// Fills the head and the table with what the text holds. A text that is refused leaves both as found.
-pub fn read(table: &mut [Record], head: &mut [usize], text: &[u8]) -> Reading
+// Fills the head and the table with what the text holds, and answers how many records that are. A text that is refused leaves both
+// as found.
+pub fn read(table: &mut [Record], head: &mut [usize], text: &[u8]) -> Result<usize, Unread>
     ensures { Filled text.now head.old table.old result head.new table.new }
 {
-    let got = judge(text, head, table.len());
-    let n = got.count;
+    let n = judge(text, head, table.len())?;
     let mut at = start(head);
-    let mut i = 0;
-    while i < n {
-        let one = next_record(text, head, at);
-        table[i] = one.record;
-        at = one.next;
-        i += 1;
+    for i in 0..n {
+        // there is one: as many are to come as were counted
+        if let Some(one) = next_record(text, head, at) {
+            table[i] = one.record;
+            at = one.next;
+        }
     }
-    got
+    Ok(n)
 }
 
 // The answer of what a head and a table hold of the text. A record that is out is not looked at further.
@@ -43,14 +43,11 @@ pub fn ask(
 {
     let query = begin(text, head, table.len(), name, path, asked, owner);
     let mut found = no_findings();
-    let mut k = 0;
-    while k < query.count {
-        if is_out(query, table[k]) {
-            k += 1;
-        } else {
-            found = weigh(text, head, path, query, table[k], found);
-            k = k + 1;
+    for entry in &table[..query.count] {
+        if is_out(query, *entry) {
+            continue;
         }
+        found = weigh(text, head, path, query, *entry, found);
     }
     conclude(text, query, found)
 }

@@ -46,17 +46,14 @@ pub struct Refusal {
 pub fn bytes_from(s: &[u8], n: usize) -> &[u8]
     ensures { result.now ≡ drop n s.now }
 {
-    if n < s.len() {
-        return &s[n..];
-    }
-    &s[s.len()..]
+    s.get(n..).unwrap_or(&[])
 }
 
 // Whether s begins with the bytes of a word.
 pub fn starts_with(s: &[u8], word: &[u8]) -> bool
     ensures { result ≡ starts_with word.now s.now }
 {
-    scan::same_bytes(scan::span(s, 0, word.len()), word)
+    s.starts_with(word)
 }
 
 // A refusal at a place of the text: the line is 1 plus the LFs before it, the column 1 plus the bytes since the last of these.
@@ -68,15 +65,13 @@ pub fn refusal_at(text: &[u8], stop: Stop) -> Refusal
     let before = scan::span(text, 0, end);
     let mut line: usize = 1;
     let mut column: usize = 1;
-    let mut i = 0;
-    while i < before.len() {
-        if before[i] == b'\n' {
+    for b in before {
+        if *b == b'\n' {
             line += 1;
             column = 1;
         } else {
             column += 1;
         }
-        i += 1;
     }
     Refusal {
         number,

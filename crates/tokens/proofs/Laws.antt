@@ -116,14 +116,14 @@ module _ (s : List ℕ) where
   pub no-token : (r : Read) → OneOf (1 ∷ 2 ∷ []) (tag_of the_type r) → wanted (seen s r) ≡ refused_by (stop_of r)
   unfolding seen stop_of
   no-token (read.Found t) h = absurd (⊎_elim (λ e. omega arith) (λ e. omega arith) h)
-  no-token (read.Stopped n p) h = refl
+  no-token (read.Stopped stop) h = refl
   no-token (read.End p) h = refl
 
   pub not_found : {A : Type 0} (r : Read) → OneOf (1 ∷ 2 ∷ []) (tag_of the_type r) → (f : Next → A) {a : A} →
       ((n p : ℕ) → f (Stopped n p) ≡ a) → ((p : ℕ) → f (End p) ≡ a) → f (seen s r) ≡ a
   unfolding seen
   not_found (read.Found t) h f x y = absurd (⊎_elim (λ e. omega arith) (λ e. omega arith) h)
-  not_found (read.Stopped n p) h f x y = x n p.0
+  not_found (read.Stopped stop) h f x y = x stop.number stop.place.0
   not_found (read.End p) h f x y = y p.0
 
   -- and where it has one

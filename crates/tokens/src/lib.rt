@@ -1,10 +1,10 @@
 // The tokens of a text.
 #![tactic(auto)]
 
-ghost use Rattle.std.specs.Prelude.{◌≡◌, ◌+◌, ◌<◌, length, drop};
+ghost use Rattle.std.specs.Prelude.{◌≡◌, ◌+◌, ◌<◌, ℕ, List, length, drop};
 ghost use Rattle.scan.specs.Bytes.{run, span};
-ghost use Rattle.tokens.specs.Tokens.{is_word, in_quotes, plain, plain_token, quoted_token, token_at};
-ghost use Rattle.tokens.specs.Places.{seen, stop_of, token_of};
+ghost use Rattle.tokens.specs.Tokens.{is_word, in_quotes, plain, plain_token, quoted_token, token_at, wanted};
+ghost use Rattle.tokens.specs.Places.{seen, seen_token, stop_of, token_of};
 
 use scan::begins_at;
 use text::{BAD_FORM, NOT_TAKEN, Place, Stop};
@@ -23,8 +23,24 @@ pub struct Token {
 #[derive(Clone, Copy)]
 pub enum Read {
     Found(Token),
-    Stopped { number: u8, place: Place },
+    Stopped(Stop),
     End(Place),
+}
+
+impl Read {
+    // The token where one is wanted, or else the refusal.
+    pub fn token(self) -> Result<Token, Stop>
+        ensures { (s : List ℕ) → seen_token s result ≡ wanted (seen s self) }
+    {
+        match self {
+            Read::Found(t) => Ok(t),
+            Read::Stopped(stop) => Err(stop),
+            Read::End(place) => Err(Stop {
+                number: BAD_FORM,
+                place,
+            }),
+        }
+    }
 }
 
 // The bytes of a token.
@@ -56,7 +72,7 @@ pub fn stop_of(r: Read) -> Stop
                 place: start,
             }
         }
-        Read::Stopped { number, place } => Stop { number, place },
+        Read::Stopped(stop) => stop,
         Read::End(place) => Stop {
             number: BAD_FORM,
             place,
@@ -85,15 +101,7 @@ fn is_plain(b: u8, stop: u8) -> bool
 fn plain_end(text: &[u8], at: usize, stop: u8) -> usize
     ensures { result ≡ at + run (plain stop) (drop at text.now) }
 {
-    let mut i = at;
-    while i < text.len() {
-        if is_plain(text[i], stop) {
-            i += 1;
-        } else {
-            return i;
-        }
-    }
-    i
+    scan::end_of(text, at, |b| is_plain(b, stop))
 }
 
 // A byte of a quoted token.
@@ -107,15 +115,7 @@ fn is_in_quotes(b: u8) -> bool
 fn quoted_end(text: &[u8], at: usize) -> usize
     ensures { result ≡ at + run in_quotes (drop at text.now) }
 {
-    let mut i = at;
-    while i < text.len() {
-        if is_in_quotes(text[i]) {
-            i += 1;
-        } else {
-            return i;
-        }
-    }
-    i
+    scan::end_of(text, at, is_in_quotes)
 }
 
 // The quoted token at p, if a quote closes it.
@@ -133,10 +133,10 @@ fn quoted_token(text: &[u8], p: usize) -> Read
             next: Place(close + 1),
         });
     }
-    Read::Stopped {
+    Read::Stopped(Stop {
         number: BAD_FORM,
         place: Place(p),
-    }
+    })
 }
 
 // The unquoted token at p, if no quote ends it.
@@ -145,10 +145,10 @@ fn plain_token(text: &[u8], p: usize, stop: u8) -> Read
 {
     let end = plain_end(text, p, stop);
     if begins_at(text, end, b'"') {
-        return Read::Stopped {
+        return Read::Stopped(Stop {
             number: BAD_FORM,
             place: Place(p),
-        };
+        });
     }
     Read::Found(Token {
         start: Place(p),
@@ -169,16 +169,16 @@ pub fn next_token(text: &[u8], at: Place, stop: u8) -> Read
     }
     let b = text[p];
     if b == 0 {
-        return Read::Stopped {
+        return Read::Stopped(Stop {
             number: BAD_FORM,
             place: Place(p),
-        };
+        });
     }
     if b == b'#' {
-        return Read::Stopped {
+        return Read::Stopped(Stop {
             number: NOT_TAKEN,
             place: Place(p),
-        };
+        });
     }
     if b == b'"' {
         return quoted_token(text, p);

@@ -1,5 +1,6 @@
 // The table of the variables that are set, which is lent: variable w has the places of its name at 2 * w, the number of
 // its values at 64 + w, and the places of value k at 96 + 2 * (16 * w + k). At most 32 are set, with 16 values each.
+// Numbers, since it stands in the head that callers of C lend (sidluqethe_read).
 #![tactic(auto)]
 
 ghost use Rattle.std.specs.Prelude.{◌≡◌, min, ltb, length, get_or, if◌then◌else◌};
@@ -13,10 +14,7 @@ use scan::{least, same_bytes, span};
 pub fn cell(table: &[usize], i: usize) -> usize
     ensures { result ≡ get_or table.now i 0 }
 {
-    if table.len() <= i {
-        return 0;
-    }
-    table[i]
+    table.get(i).copied().unwrap_or(0)
 }
 
 // How many values variable w has.
@@ -24,9 +22,10 @@ pub fn value_count(vars: &[usize], w: usize) -> usize
     ensures { result ≡ (if ltb w 32 then held_by vars.now w else 0) }
 {
     if w < 32 {
-        return least(16, cell(vars, 64 + w));
+        least(16, cell(vars, 64 + w))
+    } else {
+        0
     }
-    0
 }
 
 // Variable w is named by what stands from start to before end in the text, and has no values.
@@ -64,13 +63,11 @@ pub fn named(text: &[u8], vars: &[usize], n: usize, start: usize, end: usize) ->
     ensures { result ≡ number_of text.now vars.now (min 32 n) (span text.now start end) }
 {
     let name = span(text, start, end);
-    let mut i = least(32, n);
-    while 0 < i {
-        let w = 2 * (i - 1);
+    for i in (0..least(32, n)).rev() {
+        let w = 2 * i;
         if same_bytes(span(text, cell(vars, w), cell(vars, w + 1)), name) {
-            return i;
+            return i + 1;
         }
-        i -= 1;
     }
-    i
+    0
 }

@@ -10,9 +10,8 @@ use borrow.Author.Tests.{eq-eqb, le-leb, lt-leb}
 use Rattle.scan.specs.Bytes.{some}
 use Rattle.perms.specs.Sets.{has, set_of}
 use Rattle.perms.proofs.Laws.{set-eq}
-use Rattle.text.specs.Reading.{Reading}
+use Rattle.text.specs.Reading.{Reading, Read, Refused}
 use Rattle.text.specs.declared.Place.{Place}
-use Rattle.text.specs.declared.Stop.{Stop}
 use Rattle.pattern.specs.Expansions.{Variable}
 use Rattle.pattern.specs.Faults.{pattern_fault}
 use Rattle.matcher.specs.Match.{matches_some, matches_exactly}
@@ -20,14 +19,11 @@ use Rattle.matcher.specs.Walk.{path_fits}
 use Rattle.expand.specs.Write.{text_fits}
 use Rattle.glob.specs.Glob.{matched_of}
 use Rattle.glob.specs.declared.Matched.{Matched}
-use Rattle.rule.specs.Rules.{Rule, Step, rule_at}
+use Rattle.rule.specs.Rules.{Rule, Step, More, Close, rule_at}
 use Rattle.rule.specs.Places.{rule_of}
 use Rattle.text.specs.Places.{span_of}
 use Rattle.rule.specs.declared.Rule as rule
 use Rattle.statement.specs.Steps.{rule_then, rules_from}
-use Rattle.statement.specs.Places.{seen_step}
-use Rattle.statement.specs.declared as code
-use Rattle.statement.specs.declared.Step.TheVariants as step
 use Rattle.family.specs.Members.{those, all, Choice, choice}
 use Rattle.findings.specs.Findings.{Access, Move, Findings, allows, applies, audited, bits, denies, exactly, findings, join, move_by, moves, otherwise, same_move}
 use Rattle.findings.specs.Weighed.{Weighed, allowing, denying, nothing, weighed, with_transition}
@@ -192,28 +188,27 @@ module _ (vs : List Variable) (s path : List ℕ) (owner : Bool) (at : ℕ) (w :
   gather-end = refl
 
   -- what is gathered from here on is what was read, and then the others
-  from_step : (left : ℕ) (x : code.Step.Step) → seen_step s x ≡ rule_at (pattern_fault vs) s at →
-      gathered s vs path owner (rules_from (suc left) (pattern_fault vs) s at) w ≡ gathered s vs path owner (rule_then (λ r. rules_from left (pattern_fault vs) s r.next) (seen_step s x)) w
+  from_step : (left : ℕ) {x : Reading Step} → x ≡ rule_at (pattern_fault vs) s at →
+      gathered s vs path owner (rules_from (suc left) (pattern_fault vs) s at) w ≡ gathered s vs path owner (rule_then (λ r. rules_from left (pattern_fault vs) s r.next) x) w
   unfolding rules_from
-  from_step left x e = ap (λ (y : Reading Step). gathered s vs path owner (rule_then (λ r. rules_from left (pattern_fault vs) s r.next) y) w) (sym e)
+  from_step left e = ap (λ (y : Reading Step). gathered s vs path owner (rule_then (λ r. rules_from left (pattern_fault vs) s r.next) y) w) (sym e)
 
-  module _ (left : ℕ) {x : code.Step.Step} (e : seen_step s x ≡ rule_at (pattern_fault vs) s at) where
-    pub gather-more : {r : rule.Rule} {n : Place} → x ≡ step.Rule r n →
+  module _ (left : ℕ) where
+    pub gather-more : (r : rule.Rule) (n : Place) → Read (More (record { rule = rule_of s r; next = n.0 })) ≡ rule_at (pattern_fault vs) s at →
         gathered s vs path owner (rules_from (suc left) (pattern_fault vs) s at) w
         ≡ gathered s vs path owner (rules_from left (pattern_fault vs) s n.0) (weighed_by owner (matched_of s vs (span_of s r.pattern) path) (rule_of s r) w)
-    unfolding gathered seen_step
-    gather-more q = from_step left x e ∙ rw q
+    unfolding gathered
+    gather-more r n e = from_step left e
 
-    pub gather-close : {n : Place} → x ≡ step.Close n → gathered s vs path owner (rules_from (suc left) (pattern_fault vs) s at) w ≡ w
-    unfolding gathered seen_step
-    gather-close q = from_step left x e ∙ rw q
+    pub gather-close : {n : ℕ} → Read (Close n) ≡ rule_at (pattern_fault vs) s at → gathered s vs path owner (rules_from (suc left) (pattern_fault vs) s at) w ≡ w
+    unfolding gathered
+    gather-close e = from_step left e
 
-    pub gather-refused : {stop : Stop} → x ≡ step.Refused stop → gathered s vs path owner (rules_from (suc left) (pattern_fault vs) s at) w ≡ w
-    unfolding gathered seen_step
-    gather-refused q = from_step left x e ∙ rw q
+    pub gather-refused : {n p : ℕ} → Refused n p ≡ rule_at (pattern_fault vs) s at → gathered s vs path owner (rules_from (suc left) (pattern_fault vs) s at) w ≡ w
+    unfolding gathered
+    gather-refused e = from_step left e
 
 -- the pattern of a rule that was read has no fault
-pub read-good : (vs : List Variable) (s : List ℕ) (at : ℕ) {x : code.Step.Step} → seen_step s x ≡ rule_at (pattern_fault vs) s at → {r : rule.Rule} {n : Place} → x ≡ step.Rule r n
+pub read-good : (vs : List Variable) (s : List ℕ) (at : ℕ) (r : rule.Rule) (n : Place) → Read (More (record { rule = rule_of s r; next = n.0 })) ≡ rule_at (pattern_fault vs) s at
     → pattern_fault vs (span_of s r.pattern) ≡ 0
-unfolding seen_step
-read-good vs s at e {r} {n} q = (rule-sound vs s at (record { rule = rule_of s r; next = n.0 }) (sym e ∙ ap (seen_step s) q)).good
+read-good vs s at r n e = (rule-sound vs s at (record { rule = rule_of s r; next = n.0 }) (sym e)).good

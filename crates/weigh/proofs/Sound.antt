@@ -1,5 +1,6 @@
 -- Rules that were read are sound.
-use Rattle.std.specs.Prelude.{if◌then◌else◌}
+use Rattle.std.proofs.Common.{Option, None, Some}
+use Rattle.std.specs.Prelude.{Option, Some, None, if◌then◌else◌}
 use Prim.Native.Nat.{ℕ, zero, suc, ◌+◌, ◌<◌}
 use Prim.Native.Char.{code}
 use mathlib.Core.Path.{◌≡◌, refl, subst}
@@ -10,12 +11,10 @@ use lib.ListN.{get_or}
 use Rattle.scan.specs.Bytes.{bytes, every, holds, same}
 use Rattle.perms.specs.Sets.{perms}
 use Rattle.modes.specs.Modes.{modes, mode_in}
-use Rattle.perms_word.specs.Words.{carried, letters, mode_part, named, with_mode, word_of}
+use Rattle.perms_word.specs.Words.{carried, carries, letters, mode_part, named, with_mode, word_of}
 use Rattle.perms.specs.declared.Perms.{Perms}
-use Rattle.modes.specs.declared.Transition.{Transition}
-use Rattle.modes.specs.declared.Transition.TheVariants.{Absent, ByMode}
+use Rattle.modes.specs.declared.Mode.{Mode}
 use Rattle.perms_word.specs.declared.Word.{Word}
-use Rattle.perms_word.specs.declared.Word.TheVariants.{Carries, Bad}
 use Rattle.perms.proofs.Laws.{set-lt}
 use Rattle.text.specs.Reading.{Reading, Read, Refused, ◌>>=◌, refuse_if, judged}
 use Rattle.tokens.specs.Tokens.{Token, comma, is_word, token_at, wanted}
@@ -61,18 +60,18 @@ module _ {B : Type 0} (Q : B → Type 0) where
 
 -- ---- PERMS
 
-abbrev Below : Word → Type 0
-Below (Carries p t) = p.0 < 128
-Below Bad = Unit {0}
+abbrev Below : Option Word → Type 0
+Below (Some w) = w.perms.0 < 128
+Below None = Unit {0}
 
 carried-lt : (w : List ℕ) → carried w < 128
 unfolding carried
 carried-lt w = set-lt 7 (λ k. holds (get_or letters k 0) w || (eqb k 2 && holds (code "w") w))
 
 module _ (p : Perms) (h : p.0 < 128) where
-  named-below : (t : Transition) → Below (named p t)
-  named-below Absent = tt
-  named-below (ByMode m) = h
+  named-below : (t : Option Mode) → Below (named p t)
+  named-below None = tt
+  named-below (Some m) = h
 
   mode-below : (deny : Bool) (m : List ℕ) → Below (with_mode deny p m)
   unfolding with_mode
@@ -80,7 +79,7 @@ module _ (p : Perms) (h : p.0 < 128) where
   mode-below false [] = h
   mode-below true (b ∷ m) = go (same (b ∷ m) (bytes "x"))
     where
-      go : (x : Bool) → Below (elim x as (λ _. Word) [ true ↦ Carries p Absent | false ↦ Bad ])
+      go : (x : Bool) → Below (elim x as (λ _. Option Word) [ true ↦ carries p None | false ↦ None ])
       go true = h
       go false = tt
   mode-below false (b ∷ m) = named-below (mode_in modes (b ∷ m))
@@ -90,16 +89,16 @@ unfolding word_of
 word_below deny [] = tt
 word_below deny (b ∷ w) = go (holds (code "w") (b ∷ w) && holds (code "a") (b ∷ w))
   where
-    go : (x : Bool) → Below (if x then Bad else with_mode deny (perms (carried (b ∷ w))) (mode_part (b ∷ w)))
+    go : (x : Bool) → Below (if x then None else with_mode deny (perms (carried (b ∷ w))) (mode_part (b ∷ w)))
     go true = tt
     go false = mode-below (perms (carried (b ∷ w))) (carried-lt (b ∷ w)) deny (mode_part (b ∷ w))
 
 abbrev Few : Permissions → Type 0
 Few p = p.perms.0 < 128
 
-carries-few : (t : Token) (w : Word) → Below w → Holds Few (carried_by t w)
-carries-few t (Carries p tr) h = h
-carries-few t Bad h = tt
+carries-few : (t : Token) (w : Option Word) → Below w → Holds Few (carried_by t w)
+carries-few t (Some w) h = h
+carries-few t None h = tt
 
 perms-few : (deny : Bool) (s : List ℕ) (at : ℕ) → Holds Few (perms_at deny s at)
 unfolding perms_at

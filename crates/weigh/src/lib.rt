@@ -79,23 +79,22 @@ fn gather(
     requires known { Known text.now vars.now n sizes.now }
     requires fits { Fits text.now path.now }
     ensures { seen_findings text.now result
-        ≡ weighed (findings (env text.now vars.now n) (record { path = path.entry.now; owner = owner }) (rules_from count (pattern_fault (env text.now vars.now n)) text.now at.0)) }
+        ≡ weighed (findings (env text.now vars.now n) (record { path = path.now; owner = owner }) (rules_from count (pattern_fault (env text.now vars.now n)) text.now at.0)) }
 {
     let mut found = no_findings();
     let mut place = at;
-    let mut i: usize = 0;
-    while i < count {
-        let r = rule_at(text, vars, n, sizes, 0, place);
-        match r {
-            Step::Rule { rule, next } => {
-                found = weigh(text, vars, n, sizes, path, owner, rule, found);
-                place = next;
-                i += 1;
-            }
-            Step::Close { next: _ } => {
-                return found;
-            }
-            Step::Refused(_) => {
+    for _ in 0..count {
+        match rule_at(text, vars, n, sizes, 0, place) {
+            Ok(step) => match step {
+                Step::Rule { rule, next } => {
+                    found = weigh(text, vars, n, sizes, path, owner, rule, found);
+                    place = next;
+                }
+                Step::Close { .. } => {
+                    return found;
+                }
+            },
+            Err(_) => {
                 return found;
             }
         }
@@ -114,7 +113,7 @@ pub fn findings_of(
     at: Place,
 ) -> Findings
     ensures { seen_findings text.now result
-        ≡ gathered_of text.now (env text.now vars.now n) (record { path = path.entry.now; owner = owner }) count at.0 }
+        ≡ gathered_of text.now (env text.now vars.now n) (record { path = path.now; owner = owner }) count at.0 }
 {
     if 65535 < text.len() {
         return no_findings();

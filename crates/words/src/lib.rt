@@ -33,9 +33,7 @@ fn number(s: &[u8], n: usize) -> usize
     ensures { result ≡ word_of n s.now }
 {
     let mut w = 0;
-    let mut i = n;
-    while 0 < i {
-        i -= 1;
+    for i in (0..n).rev() {
         w = w * 256 + s[i] as usize;
     }
     w
@@ -66,17 +64,13 @@ fn front_len(pattern: &[u8]) -> usize
     ensures { result ≡ length (front pattern.now) }
 {
     let mut slash = false;
-    let mut i = 0;
-    while i < pattern.len() {
-        let b = pattern[i];
-        if plain(b, slash) {
-            slash = b == b'/';
-            i += 1;
-        } else {
+    for (i, b) in pattern.iter().enumerate() {
+        if !plain(*b, slash) {
             return i;
         }
+        slash = *b == b'/';
     }
-    i
+    pattern.len()
 }
 
 // The words of a path.

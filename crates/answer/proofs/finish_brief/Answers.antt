@@ -1,3 +1,4 @@
+use Rattle.std.proofs.Common.{Ok}
 use Prim.Native.Nat.{ℕ}
 use mathlib.Core.Path.{◌≡◌, ap, ap₂, ◌∙◌}
 use Rattle.text.specs.Places.{span_of}
@@ -9,7 +10,6 @@ use Rattle.findings.specs.Findings.{Move}
 use Rattle.findings.specs.Weighed.{seen_choice, seen_findings}
 use Rattle.answer.specs.Answers.{execute_by, is_mode, named_by, target_of, whole_of}
 use Rattle.answer.specs.Parts.{answer_to, first_of, target_by}
-use Rattle.answer.specs.declared.Verdict.TheVariants.{Answered}
 use Rattle.answer.proofs.Laws.{execute-is, granted-is, named-target, recorded-is}
 use Rattle.answer.proofs.finish_brief.Goals as goal
 
@@ -29,4 +29,4 @@ returns c =
     let granted = granted-is w asked wanted masks x _ _ mode c.granted_of-granted.ensures in
     let recorded = recorded-is w asked wanted masks x _ _ granted c.recorded_of.ensures in
     let target : span_of s c.target_of.result ≡ named_by x t = c.target_of.ensures s ∙ ap₂ target_by mode move ∙ named-target x t in
-    λ i. record { verdict = Answered; granted = perms (granted i); recorded = perms (recorded i); execute = execute i; target = target_of (target i) }
+    λ i. record { verdict = Ok tt; granted = perms (granted i); recorded = perms (recorded i); execute = execute i; target = target_of (target i) }

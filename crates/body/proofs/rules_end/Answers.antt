@@ -4,14 +4,11 @@ use mathlib.Core.Path.{sym, ◌∙◌}
 use lib.ListN.{length}
 use Rattle.scan.specs.Bytes.{bytes}
 use Rattle.blanks.specs.Blanks.{standing}
+use Rattle.text.proofs.Refusals.{seen-refused}
 use Rattle.rule.specs.Rules.{body_at, end_at}
 use Rattle.rule.proofs.Laws.{pattern-from}
-use Rattle.tokens.specs.Places.{seen}
-use Rattle.tokens.proofs.Laws.{no-token}
 use Rattle.rule.specs.Places.{seen_qualifiers}
-use Rattle.body.specs.Places.{seen_rules}
 use Rattle.blanks.proofs.Laws.{stands-inside}
-use borrow.Author.Rules.{rules}
 use Rattle.body.proofs.rules_end.Goals as goal
 
 pub overflow_add-result : goal.overflow_add-result
@@ -21,13 +18,13 @@ overflow_add-result c =
     omega (arith, c.standing_at-brace.ensures)
 
 pub returns-then-stands_at : goal.returns-then-stands_at
-unfolding end_at body_at seen_rules bytes
+unfolding end_at body_at bytes
 returns-then-stands_at c = rw (c.standing_at-brace.ensures, ← c.stands_at.ensures, c.if-stands_at.true, body_at)
 
-pub returns-in_default : goal.returns-in_default
-unfolding end_at body_at seen seen_rules bytes
-returns-in_default c = rw (c.stop_of.ensures, ← c.stands_at.ensures, c.if-stands_at.false, ← c.qualifiers_at-q.ensures.is, ← pattern-from _ (seen_qualifiers c.qualifiers_at-q.result) c.qualifiers_at-q.ensures.token, ← c.pattern_at-token.ensures, no-token c.args.text.now c.pattern_at-token.result (search rules), body_at)
+pub returns-in_err-token : goal.returns-in_err-token
+unfolding end_at body_at bytes
+returns-in_err-token c = seen-refused _ _ c.from_residual.ensures.1 ∙ rw (← c.stands_at.ensures, c.if-stands_at.false, ← c.qualifiers_at-q.ensures.is, ← pattern-from _ (seen_qualifiers c.qualifiers_at-q.result) c.qualifiers_at-q.ensures.token, ← c.in_err-token.ensures, body_at)
 
 pub returns : goal.returns
-unfolding end_at body_at seen seen_rules bytes
-returns c = rw (← c.stands_at.ensures, c.if-stands_at.false, ← c.qualifiers_at-q.ensures.is, ← pattern-from _ (seen_qualifiers c.qualifiers_at-q.result) c.qualifiers_at-q.ensures.token, ← c.pattern_at-token.ensures, c.in-Found.is, seen, body_at)
+unfolding end_at body_at bytes
+returns c = rw (← c.stands_at.ensures, c.if-stands_at.false, ← c.qualifiers_at-q.ensures.is, ← pattern-from _ (seen_qualifiers c.qualifiers_at-q.result) c.qualifiers_at-q.ensures.token, ← c.in_ok-token.ensures, body_at)

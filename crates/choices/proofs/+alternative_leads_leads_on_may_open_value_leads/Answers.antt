@@ -18,27 +18,27 @@ pub alternative_leads-loop-n-preserved : goal.alternative_leads-loop-n-preserved
 alternative_leads-loop-n-preserved t c =
     (omega arith, alternative-there _ c.args.body.now _ _ c.seek-j.ensures c.loop-n.invariant.1 c.span.ensures c.leads_on.ensures c.if-leads_on.false c.if-body-j.false)
 
+pub leads_on-returns-in_default : goal.leads_on-returns-in_default
+leads_on-returns-in_default t c = leads-unfit _ _ _ _ c.lead.ensures c.in_default.is
+
 pub leads_on-returns-then-k-value : goal.leads_on-returns-then-k-value
-leads_on-returns-then-k-value t c = leads-short _ _ _ _ c.lead-first.ensures c.if-first.true c.if-k-value.true
+leads_on-returns-then-k-value t c = leads-short _ _ _ _ c.lead.ensures c.in-Some.is c.if-k-value.true
+
+pub leads_on-returns-in_default-lead : goal.leads_on-returns-in_default-lead
+leads_on-returns-in_default-lead t c =
+    led-none _ _ _ _ c.lead-2.ensures c.in_default-lead.is
+    ∙ leads-whole _ _ _ _ c.lead.ensures c.in-Some.is c.if-k-value.false c.span-left.ensures
 
 pub leads_on-overflow_add-a : goal.leads_on-overflow_add-a
 leads_on-overflow_add-a t c =
     let text = c.args.text.now in
-    omega (arith, led-within _ text c.args.a c.args.e _ c.lead-next.ensures c.if-next.true, length-span text c.args.a c.args.e)
+    omega (arith, led-within _ text c.args.a c.args.e _ c.lead-2.ensures c.in-Some-lead.is, length-span text c.args.a c.args.e)
 
-pub leads_on-returns-then-next : goal.leads_on-returns-then-next
-leads_on-returns-then-next t c =
+pub leads_on-returns : goal.leads_on-returns
+leads_on-returns t c =
     c.may_open.ensures
-    ∙ leads-next _ _ _ _ _ c.lead-next.ensures c.if-next.true _ c.span-last.ensures
-    ∙ leads-whole _ _ _ _ c.lead-first.ensures c.if-first.true c.if-k-value.false c.span-left.ensures
-
-pub leads_on-returns-else-next : goal.leads_on-returns-else-next
-leads_on-returns-else-next t c =
-    led-none _ _ _ _ c.lead-next.ensures c.if-next.false
-    ∙ leads-whole _ _ _ _ c.lead-first.ensures c.if-first.true c.if-k-value.false c.span-left.ensures
-
-pub leads_on-returns-else-first : goal.leads_on-returns-else-first
-leads_on-returns-else-first t c = leads-unfit _ _ _ _ c.lead-first.ensures c.if-first.false
+    ∙ leads-next _ _ _ _ _ c.lead-2.ensures c.in-Some-lead.is _ c.span-last.ensures
+    ∙ leads-whole _ _ _ _ c.lead.ensures c.in-Some.is c.if-k-value.false c.span-left.ensures
 
 pub may_open-returns-then-depth-eq0 : goal.may_open-returns-then-depth-eq0
 may_open-returns-then-depth-eq0 t c = opens-zero c.if-depth-eq0.true _ _ _ _
@@ -72,11 +72,11 @@ may_open-returns-in-Among t c =
 
 pub value_leads-returns-then-leads_on : goal.value_leads-returns-then-leads_on
 value_leads-returns-then-leads_on t c =
-    value-here _ _ _ c.least-m.result c.loop-k.k (16 * c.args.w) c.loop-k.invariant.1 (search rules) (c.span-value.ensures ∙ ap₂ (span c.args.text.now) c.cell-in-loop-k.ensures c.cell-in-loop-k-2.ensures) c.leads_on.ensures c.if-leads_on.true
+    value-here _ _ _ c.least-k-end.result c.loop-k.k (16 * c.args.w) c.loop-k.invariant (search rules) (c.span-value.ensures ∙ ap₂ (span c.args.text.now) c.cell-in-loop-k.ensures c.cell-in-loop-k-2.ensures) c.leads_on.ensures c.if-leads_on.true
 
 pub value_leads-loop-k-preserved : goal.value_leads-loop-k-preserved
 value_leads-loop-k-preserved t c =
-    (omega arith, value_there _ _ _ c.least-m.result c.loop-k.k (16 * c.args.w) c.loop-k.invariant.1 (search rules) (c.span-value.ensures ∙ ap₂ (span c.args.text.now) c.cell-in-loop-k.ensures c.cell-in-loop-k-2.ensures) c.leads_on.ensures c.if-leads_on.false)
+    value_there _ _ _ c.least-k-end.result c.loop-k.k (16 * c.args.w) c.loop-k.invariant (search rules) (c.span-value.ensures ∙ ap₂ (span c.args.text.now) c.cell-in-loop-k.ensures c.cell-in-loop-k-2.ensures) c.leads_on.ensures c.if-leads_on.false
 
 pub value_leads-returns : goal.value_leads-returns
-value_leads-returns t c = value-nowhere _ _ _ c.least-m.result c.loop-k.k (16 * c.args.w) c.loop-k.invariant.1 (search rules)
+value_leads-returns t c = value-nowhere _ _ _ c.least-k-end.result c.loop-k.k (16 * c.args.w) c.loop-k.invariant (search rules)

@@ -35,7 +35,4 @@ decreases-alternative_leads-loop-n l = length l.body - l.i
 
 abbrev pub invariant-value_leads-loop-k : goal.invariant-value_leads-loop-k
 invariant-value_leads-loop-k l =
-    (l.k ≤ l.m) × (some (leads_in l.text l.vars l.n l.depth l.a l.e l.slash l.path) (values_from l.text l.vars (l.m - l.k) (16 * l.w + l.k)) ≡ some (leads_in l.text l.vars l.n l.depth l.a l.e l.slash l.path) (values_of l.text l.vars l.w))
-
-abbrev pub decreases-value_leads-loop-k : goal.decreases-value_leads-loop-k
-decreases-value_leads-loop-k l = l.m - l.k
+    some (leads_in l.text l.vars l.n l.depth l.a l.e l.slash l.path) (values_from l.text l.vars (l.k-end - l.k) (16 * l.w + l.k)) ≡ some (leads_in l.text l.vars l.n l.depth l.a l.e l.slash l.path) (values_of l.text l.vars l.w)

@@ -8,7 +8,7 @@ use lib.ListN.{get_or, take, drop}
 use Rattle.pattern.specs.Codes.{decode}
 use Rattle.codes.specs.declared.Held.{Held}
 use Rattle.codes.specs.Held.{held_from, held_wild, held_pieces}
-use Rattle.codes.proofs.Laws.{take-least, held-still, held-literal, held-wild, held-differs, held-goes, held-room, held-code, held-end, held-over}
+use Rattle.codes.proofs.Laws.{kept-from, take-least, held-still, held-literal, held-wild, held-differs, held-goes, held-room, held-code, held-end, held-over}
 use Rattle.codes.proofs.hold.Goals as goal
 
 pub returns-then-h : goal.returns-then-h
@@ -38,15 +38,15 @@ returns-then-differs_at c =
     ∙ ap (λ (h : Held). held_pieces c.args.path.now h (map (decode text) (drop c.args.from (take c.args.to c.args.codes.now)))) (held-still c.args.h c.if-h.false)
 
 pub overflow_add-at : goal.overflow_add-at
-overflow_add-at c = omega (arith, c.loop-i.invariant.0, held-room c.args.path.now c.loop-i.at c.loop-i.slash (get_or c.args.codes.now c.loop-i.i 0) c.kept-at.ensures (sym c.differs_at.ensures ∙ c.if-differs_at.false))
+overflow_add-at c = omega (arith, c.loop-i.invariant.0, held-room c.args.path.now c.loop-i.at c.loop-i.slash (get_or c.args.codes.now c.loop-i.i 0) (c.from-at.ensures ∙ kept-from _) (sym c.differs_at.ensures ∙ c.if-differs_at.false))
 
 pub loop-i-preserved : goal.loop-i-preserved
 loop-i-preserved c =
     let b = get_or c.args.codes.now c.loop-i.i 0 in
     let g = sym c.differs_at.ensures ∙ c.if-differs_at.false in (
-      omega (arith, c.loop-i.invariant.0, held-room c.args.path.now c.loop-i.at c.loop-i.slash b c.kept-at.ensures g),
+      omega (arith, c.loop-i.invariant.0, held-room c.args.path.now c.loop-i.at c.loop-i.slash b (c.from-at.ensures ∙ kept-from _) g),
       λ text. held-code c.args.path.now text c.args.codes.now c.least-end.result c.loop-i.i (search rules) (omega (arith, c.least-end.ensures)) (held_from c.loop-i.at c.loop-i.slash)
-          (held-literal c.args.path.now (held_from c.loop-i.at c.loop-i.slash) refl text b c.if-c-ge-ONE.false ∙ held-goes c.args.path.now c.loop-i.at c.loop-i.slash b c.kept-at.ensures g)
+          (held-literal c.args.path.now (held_from c.loop-i.at c.loop-i.slash) refl text b c.if-c-ge-ONE.false ∙ held-goes c.args.path.now c.loop-i.at c.loop-i.slash b (c.from-at.ensures ∙ kept-from _) g)
           ∙ c.loop-i.invariant.1 text,
     )
 

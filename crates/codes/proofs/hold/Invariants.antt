@@ -10,6 +10,3 @@ abbrev pub invariant-loop-i : goal.invariant-loop-i
 invariant-loop-i l = (l.at ≤ max l.initial.at (length l.path))
     × ((text : List ℕ) → held_pieces l.path (held_from l.at l.slash) (map (decode text) (drop l.i (take l.end l.codes)))
     ≡ held_pieces l.path (held_from l.initial.at l.initial.slash) (map (decode text) (drop l.from (take l.to l.codes))))
-
-abbrev pub decreases-loop-i : goal.decreases-loop-i
-decreases-loop-i l = l.end - l.i

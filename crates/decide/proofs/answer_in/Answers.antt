@@ -15,13 +15,13 @@ pub returns-in_default : goal.returns-in_default
 returns-in_default c =
     let vs = env c.args.text.now c.args.vars.now c.args.n in
     let q : Access = record { path = c.args.path.now; owner = c.args.owner } in
-    c.refused.ensures ∙ ap refusal c.nowhere.ensures ∙ sym (answer-by vs q c.args.asked.0 c.args.text.now c.args.profiles.now c.args.count c.args.name.now c.find-r.result c.find-r.ensures _ c.in_default.is)
+    c.refused.ensures ∙ ap refusal c.nowhere.ensures ∙ sym (answer-by vs q c.args.asked.0 c.args.text.now c.args.profiles.now c.args.count c.args.name.now c.find.result c.find.ensures _ c.in_default.is)
 
 pub returns : goal.returns
 returns c =
     let vs = env c.args.text.now c.args.vars.now c.args.n in
     let q : Access = record { path = c.args.path.now; owner = c.args.owner } in
     c.finish.ensures
-    ∙ ap (λ (w : Weighed). answer_to w c.args.asked.0) (c.findings_of-found.ensures ∙ gathered-fit c.args.text.now vs q c.in-Rules.rules c.in-Rules.at.0 c.requires.fits)
-    ∙ answer-gathered (findings vs q (rules_from c.in-Rules.rules (pattern_fault vs) c.args.text.now c.in-Rules.at.0)) c.args.asked.0
-    ∙ sym (answer-by vs q c.args.asked.0 c.args.text.now c.args.profiles.now c.args.count c.args.name.now c.find-r.result c.find-r.ensures _ c.in-Rules.is)
+    ∙ ap (λ (w : Weighed). answer_to w c.args.asked.0) (c.findings_of-found.ensures ∙ gathered-fit c.args.text.now vs q c.in-Some.rules.count c.in-Some.rules.at.0 c.requires.fits)
+    ∙ answer-gathered (findings vs q (rules_from c.in-Some.rules.count (pattern_fault vs) c.args.text.now c.in-Some.rules.at.0)) c.args.asked.0
+    ∙ sym (answer-by vs q c.args.asked.0 c.args.text.now c.args.profiles.now c.args.count c.args.name.now c.find.result c.find.ensures _ c.in-Some.is)

@@ -1,16 +1,15 @@
 use mathlib.Core.Path.{sym, ◌∙◌}
 use native.Mathlib.Omega.{arith}
-use Rattle.direct.proofs.Turns.{fitting-stop, fitting-next, fitting-short, fitting-end}
+use Rattle.std.proofs.Common.{rules, tests}
+use Rattle.std.proofs.lemmas.Iterator.{YieldsList-from_slice, YieldsList-from_zip}
+use Rattle.std.proofs.lemmas.Iterator.Search.{all_from_yields_List}
+use Rattle.direct.proofs.Turns.{pair_fits, fitting-short, fitting-all}
 use Rattle.direct.proofs.fits.Goals as goal
 
-pub returns-then-path-i : goal.returns-then-path-i
-returns-then-path-i c = sym (fitting-short c.args.tail.now c.args.path.now c.loop-i.i (omega arith) (omega arith)) ∙ c.loop-i.invariant.1
-
-pub returns-then-not-takes : goal.returns-then-not-takes
-returns-then-not-takes c = fitting-stop c.args.tail.now c.args.path.now c.loop-i.i (omega arith) (omega arith) c.takes.ensures c.if-not-takes.true ∙ c.loop-i.invariant.1
-
-pub loop-i-preserved : goal.loop-i-preserved
-loop-i-preserved c = (omega arith, fitting-next c.args.tail.now c.args.path.now c.loop-i.i (omega arith) (omega arith) c.takes.ensures c.if-not-takes.false ∙ c.loop-i.invariant.1)
+pub returns-then-path-tail : goal.returns-then-path-tail
+returns-then-path-tail c = sym (fitting-short c.args.tail.now c.args.path.now (omega arith))
 
 pub returns : goal.returns
-returns c = sym (fitting-end c.args.tail.now c.args.path.now c.loop-i.i (omega arith)) ∙ c.loop-i.invariant.1
+returns c =
+    all_from_yields_List pair_fits c.all.new.self _ _ c.all.ensures.ran (YieldsList-from_zip (YieldsList-from_slice c.args.tail.now cc) (YieldsList-from_slice c.args.path.now cc)) (λ x b q k. search (rules, tests))
+    ∙ fitting-all c.args.tail.now c.args.path.now (omega arith)

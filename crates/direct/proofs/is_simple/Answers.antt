@@ -4,10 +4,10 @@ use Rattle.direct.proofs.Turns.{simple-stop, simple-next, simple-end}
 use Rattle.direct.proofs.is_simple.Goals as goal
 
 pub returns-then-not-plain-b : goal.returns-then-not-plain-b
-returns-then-not-plain-b c = simple-stop c.args.tail.now c.loop-i.i c.loop-i.slash (omega arith) c.plain.ensures c.if-not-plain-b.true ∙ c.loop-i.invariant.1
+returns-then-not-plain-b c = simple-stop c.args.tail.now c.loop-b.b-index c.loop-b.slash (omega arith) c.plain.ensures c.if-not-plain-b.true ∙ c.loop-b.invariant
 
-pub loop-i-preserved : goal.loop-i-preserved
-loop-i-preserved c = (omega arith, simple-next c.args.tail.now c.loop-i.i c.loop-i.slash (omega arith) c.plain.ensures c.if-not-plain-b.false ∙ c.loop-i.invariant.1)
+pub loop-b-preserved : goal.loop-b-preserved
+loop-b-preserved c = simple-next c.args.tail.now c.loop-b.b-index c.loop-b.slash (omega arith) c.plain.ensures c.if-not-plain-b.false ∙ c.loop-b.invariant
 
 pub returns : goal.returns
-returns c = sym (simple-end c.args.tail.now c.loop-i.i c.loop-i.slash (omega arith)) ∙ c.loop-i.invariant.1
+returns c = sym (simple-end c.args.tail.now c.loop-b.b-index c.loop-b.slash (omega arith)) ∙ c.loop-b.invariant

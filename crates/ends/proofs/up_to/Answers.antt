@@ -1,23 +1,33 @@
-use borrow.Author.Rules.{rules}
 use native.Mathlib.Omega.{arith}
+use Prim.Native.Nat.{ℕ, ◌+◌, ◌-◌, ◌<◌, ◌≤◌}
+use mathlib.Core.Path.{◌≡◌}
+use mathlib.Core.Bool.{Bool, not}
+use mathlib.Core.List.{List}
+use lib.Dec.{eqb}
 use lib.ListN.{length, drop, length-drop}
-use borrow.Author.Tests.{eq-eqb, ne_eqb, lt-ltb, le-ltb}
+use borrow.Author.Tests.{lt-ltb, le-ltb}
+use Rattle.std.proofs.Common.{rules, tests}
 use Rattle.scan.specs.Bytes.{run}
-use Rattle.scan.proofs.Laws.{run_more, run-stop, run_end}
 use Rattle.pattern.specs.Pieces.{up_to}
-use Rattle.ends.proofs.up_to.Invariants.{other}
 use Rattle.ends.proofs.up_to.Goals as goal
 
-pub returns-then-s-i : goal.returns-then-s-i
-unfolding up_to
-returns-then-s-i c =
-    let d : _ = length-drop c.args.at c.args.s.now in let h : _ = run-stop (other c.args.c) c.args.s.now c.loop-i.i (search rules) (rw (eq-eqb _ _ c.if-s-i.true)) in rw (lt-ltb (run (other c.args.c) (drop c.args.at c.args.s.now)) (length (drop c.args.at c.args.s.now)) (omega arith), up_to) (omega arith)
+abbrev other : ℕ → ℕ → Bool
+other c b = not (eqb b c)
 
-pub loop-i-preserved : goal.loop-i-preserved
-loop-i-preserved c =
-    let h : _ = run_more (other c.args.c) c.args.s.now c.loop-i.i (search rules) (rw (ne_eqb _ _ c.if-s-i.false)) in (omega arith, omega arith)
+module _ (c : ℕ) (s : List ℕ) (at end : ℕ) (e : end ≡ at + run (other c) (drop at s)) where
+  found : end < length s → end - at + 1 ≡ up_to c (drop at s)
+  unfolding up_to
+  found h = rw (lt-ltb (run (other c) (drop at s)) (length (drop at s)) (omega (arith, length-drop at s)), up_to) (omega arith)
+
+  none : length s ≤ end → 0 ≡ up_to c (drop at s)
+  unfolding up_to
+  none h = rw (le-ltb (run (other c) (drop at s)) (length (drop at s)) (omega (arith, length-drop at s)), up_to)
+
+pub overflow_sub-result : goal.overflow_sub-result
+overflow_sub-result c = omega (arith, c.end_of-end.ensures (other c.args.c) (λ b r h g. search (rules, tests)))
+
+pub returns-then-end-s : goal.returns-then-end-s
+returns-then-end-s c = found _ _ _ _ (c.end_of-end.ensures (other c.args.c) (λ b r h g. search (rules, tests))) c.if-end-s.true
 
 pub returns : goal.returns
-unfolding up_to
-returns c =
-    let d : _ = length-drop c.args.at c.args.s.now in let h : _ = run_end (other c.args.c) c.args.s.now c.loop-i.i (search rules) in rw (le-ltb (run (other c.args.c) (drop c.args.at c.args.s.now)) (length (drop c.args.at c.args.s.now)) (omega arith), up_to)
+returns c = none _ _ _ _ (c.end_of-end.ensures (other c.args.c) (λ b r h g. search (rules, tests))) c.if-end-s.false

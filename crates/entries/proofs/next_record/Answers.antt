@@ -1,16 +1,24 @@
-use mathlib.Core.Path.{sym, ◌∙◌}
-use Rattle.entries.proofs.Cursors.{rest-none, rest-one, rest-pass}
+use mathlib.Core.Path.{refl, sym, ap, ◌∙◌}
+use Prim.Native.Nat.{min}
+use native.Mathlib.Omega.{arith}
+use Rattle.entries.proofs.Cursors.{rest-one, rest_out, rest-pass}
+use Rattle.entries.specs.declared.Cursor.{Cursor}
 use Rattle.entries.proofs.next_record.Goals as goal
 
-pub returns-then-r : goal.returns-then-r
-returns-then-r c = sym c.loop-cursor.invariant.1 ∙ rest-one c.args.text.now c.args.head.now c.loop-cursor.cursor (rw (← c.loop-cursor.invariant.0) c.loop-cursor-test.true) c.next_here-r.result c.next_here-r.ensures c.if-r.true
+pub loop-i-init : goal.loop-i-init
+loop-i-init c = record { all = c.least-n.ensures ∙ ap (min 32) c.cell.ensures; here = refl; rest = refl }
 
-pub loop-cursor-preserved : goal.loop-cursor-preserved
-loop-cursor-preserved c = (
-  c.loop-cursor.invariant.0,
-  rw c.cursor_at-cursor.ensures (rest-pass c.args.text.now c.args.head.now c.loop-cursor.cursor (rw (← c.loop-cursor.invariant.0) c.loop-cursor-test.true) c.next_here-r.result c.next_here-r.ensures c.if-r.false)
-      ∙ c.loop-cursor.invariant.1,
-)
+pub returns-in-Some : goal.returns-in-Some
+returns-in-Some c = sym c.loop-i.invariant.rest ∙ rest-one c.args.text.now c.args.head.now c.loop-i.cursor (omega arith) c.in-Some.next c.in-Some.ensures
+
+pub loop-i-preserved : goal.loop-i-preserved
+loop-i-preserved c =
+    let next = rest-pass c.args.text.now c.args.head.now c.loop-i.cursor (omega arith) c.next_here.result c.next_here.ensures c.in_default.is in
+    record {
+      all = c.loop-i.invariant.all;
+      here = ap (λ (x : Cursor). x.profile) c.cursor_at-cursor.ensures;
+      rest = rw (c.cursor_at-cursor.ensures, ← c.loop-i.invariant.here) next ∙ c.loop-i.invariant.rest;
+    }
 
 pub returns : goal.returns
-returns c = sym c.loop-cursor.invariant.1 ∙ rest-none c.args.text.now c.args.head.now c.loop-cursor.cursor (rw (← c.loop-cursor.invariant.0) c.loop-cursor-test.false) c.nothing.result c.nothing.ensures.0
+returns c = sym c.loop-i.invariant.rest ∙ rest_out c.args.text.now c.args.head.now c.loop-i.cursor (omega arith)

@@ -46,10 +46,13 @@ pub write_value-loop-at-init : goal.write_value-loop-at-init
 write_value-loop-at-init t c = rw c.span-s.ensures (writing-none c.requires.room)
 
 pub write_value-push_run-w-requires : goal.write_value-push_run-w-requires
-write_value-push_run-w-requires t c =
+write_value-push_run-w-requires t c = omega (arith, c.write_part-w.ensures.size, c.write_part-w.ensures.fits)
+
+pub write_value-slice_bounds-push_run-end : goal.write_value-slice_bounds-push_run-end
+write_value-slice_bounds-push_run-end t c =
     let s = c.span-s.result.now in
     let h : c.part_end-next.result ≤ length s = omega (arith, c.part_end-next.ensures, part_end-le s c.loop-at.at) in
-    (omega (arith, c.write_part-w.ensures.size, c.write_part-w.ensures.fits), omega (arith, c.literal_end-at.ensures, run_inside ordinary s c.part_end-next.result h))
+    omega (arith, c.literal_end-at.ensures, run_inside ordinary s c.part_end-next.result h)
 
 pub write_value-loop-at-smaller : goal.write_value-loop-at-smaller
 write_value-loop-at-smaller t c =

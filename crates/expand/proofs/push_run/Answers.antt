@@ -4,10 +4,10 @@ use Rattle.expand.proofs.Laws.{writing-byte, writing-done, run-done}
 use Rattle.expand.proofs.push_run.Goals as goal
 
 pub push-w-requires : goal.push-w-requires
-push-w-requires c = omega (arith, (c.loop-i.invariant []).wrote.size, (c.loop-i.invariant []).wrote.fits)
+push-w-requires c = omega (arith, (c.loop-b.invariant []).wrote.size, (c.loop-b.invariant []).wrote.fits)
 
-pub loop-i-preserved : goal.loop-i-preserved
-loop-i-preserved c = λ text. writing-byte c.args.s.now c.loop-i.i c.args.to c.loop-i-test.true c.requires.1 (c.type_inv.s c.loop-i.i).fits (c.loop-i.invariant text) (c.push-w.ensures text)
+pub loop-b-preserved : goal.loop-b-preserved
+loop-b-preserved c = λ text. writing-byte c.args.s.now c.loop-b.b-index c.loop-b-test.true (c.type_inv.s c.loop-b.b-index).fits (c.loop-b.invariant text) (c.push-w.ensures text)
 
 pub returns : goal.returns
-returns c = λ text. writing-done (c.loop-i.invariant text) (run-done c.args.s.now c.loop-i.i c.args.to (omega arith))
+returns c = λ text. writing-done (c.loop-b.invariant text) (run-done c.args.s.now c.loop-b.b-index (omega arith))

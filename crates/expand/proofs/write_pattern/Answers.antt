@@ -27,9 +27,12 @@ unfolding held_pieces
 loop-at-init c = (rw c.span-s.ensures (writing-none (omega arith)), refl, refl)
 
 pub push_run-w-requires : goal.push_run-w-requires
-push_run-w-requires c =
+push_run-w-requires c = omega (arith, c.write_item-w.ensures.size, c.write_item-w.ensures.fits)
+
+pub slice_bounds-push_run-end : goal.slice_bounds-push_run-end
+slice_bounds-push_run-end c =
     let h : c.item_end-next.result ≤ length c.span-s.result.now = omega (arith, c.item_end-next.ensures, item_end-le c.span-s.result.now c.loop-at.at) in
-    (omega (arith, c.write_item-w.ensures.size, c.write_item-w.ensures.fits), omega (arith, c.literal_end-at.ensures, run_inside ordinary c.span-s.result.now c.item_end-next.result h))
+    omega (arith, c.literal_end-at.ensures, run_inside ordinary c.span-s.result.now c.item_end-next.result h)
 
 pub returns-then-held : goal.returns-then-held
 returns-then-held c =

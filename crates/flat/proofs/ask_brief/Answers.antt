@@ -1,4 +1,4 @@
-use Prim.Native.Nat.{ℕ, ◌-◌, ◌≤◌}
+use Prim.Native.Nat.{ℕ}
 use Rattle.asking.specs.Steps.{query_of, weighed_entry}
 use Rattle.entries.specs.Entries.{entry_of}
 use Rattle.entries.specs.declared.Record.{Record}
@@ -11,7 +11,7 @@ use native.Mathlib.Omega.{arith}
 use Rattle.flat.proofs.ask_brief.Goals as goal
 
 pub loop-k-init : goal.loop-k-init
-loop-k-init c = (search rules, rw (c.no_findings-found.ensures c.args.text.now))
+loop-k-init c = rw (c.no_findings-found.ensures c.args.text.now)
 
 pub overflow_mul-at : goal.overflow_mul-at
 overflow_mul-at c = omega (arith, query-room c.args.text.now c.args.memory.now c.args.name.now c.args.path.now c.args.asked c.args.owner c.begin-query.result c.room_in.result c.begin-query.ensures c.room_in.ensures c.loop-k.k (search rules))
@@ -22,26 +22,20 @@ overflow_add-at c = omega (arith, query-room c.args.text.now c.args.memory.now c
 pub is_out_at-requires : goal.is_out_at-requires
 is_out_at-requires c = omega (arith, query-room c.args.text.now c.args.memory.now c.args.name.now c.args.path.now c.args.asked c.args.owner c.begin-query.result c.room_in.result c.begin-query.ensures c.room_in.ensures c.loop-k.k (search rules))
 
-pub overflow_add-k : goal.overflow_add-k
-overflow_add-k c = omega (arith, query-room c.args.text.now c.args.memory.now c.args.name.now c.args.path.now c.args.asked c.args.owner c.begin-query.result c.room_in.result c.begin-query.ensures c.room_in.ensures c.loop-k.k (search rules))
-
 pub loop-k-preserved-then-is_out_at : goal.loop-k-preserved-then-is_out_at
 loop-k-preserved-then-is_out_at c =
     let e = sym (c.is_out_at.ensures c.args.text.now) ∙ c.if-is_out_at.true in
-    (omega arith, onwards-out c.args.text.now (env c.args.text.now c.args.memory.now c.begin-query.result.variables) (record { path = c.args.path.now; owner = c.begin-query.result.owner }) c.begin-query.result.words c.begin-query.result.profile c.args.memory.now c.begin-query.result.count c.loop-k.k (seen_findings c.args.text.now c.loop-k.found) (omega arith) e ∙ c.loop-k.invariant.1)
+    onwards-out c.args.text.now (env c.args.text.now c.args.memory.now c.begin-query.result.variables) (record { path = c.args.path.now; owner = c.begin-query.result.owner }) c.begin-query.result.words c.begin-query.result.profile c.args.memory.now c.begin-query.result.count c.loop-k.k (seen_findings c.args.text.now c.loop-k.found) (omega arith) e ∙ c.loop-k.invariant
 
 pub load-requires : goal.load-requires
 load-requires c = omega (arith, query-room c.args.text.now c.args.memory.now c.args.name.now c.args.path.now c.args.asked c.args.owner c.begin-query.result c.room_in.result c.begin-query.ensures c.room_in.ensures c.loop-k.k (search rules))
-
-pub overflow_add-k-else-is_out_at : goal.overflow_add-k-else-is_out_at
-overflow_add-k-else-is_out_at c = omega (arith, query-room c.args.text.now c.args.memory.now c.args.name.now c.args.path.now c.args.asked c.args.owner c.begin-query.result c.room_in.result c.begin-query.ensures c.room_in.ensures c.loop-k.k (search rules))
 
 pub loop-k-preserved : goal.loop-k-preserved
 loop-k-preserved c =
     let e = sym (c.is_out_at.ensures c.args.text.now) ∙ c.if-is_out_at.false in
     let w = seen_findings c.args.text.now c.loop-k.found in
     let g = c.weigh-found.ensures ∙ ap (λ (x : Record). weighed_entry c.args.text.now (env c.args.text.now c.args.memory.now c.begin-query.result.variables) (record { path = c.args.path.now; owner = c.begin-query.result.owner }) (entry_of c.args.text.now x) w) c.load.ensures in
-    (omega arith, onwards-in c.args.text.now (env c.args.text.now c.args.memory.now c.begin-query.result.variables) (record { path = c.args.path.now; owner = c.begin-query.result.owner }) c.begin-query.result.words c.begin-query.result.profile c.args.memory.now c.begin-query.result.count c.loop-k.k w (seen_findings c.args.text.now c.weigh-found.result) (omega arith) e g ∙ c.loop-k.invariant.1)
+    onwards-in c.args.text.now (env c.args.text.now c.args.memory.now c.begin-query.result.variables) (record { path = c.args.path.now; owner = c.begin-query.result.owner }) c.begin-query.result.words c.begin-query.result.profile c.args.memory.now c.begin-query.result.count c.loop-k.k w (seen_findings c.args.text.now c.weigh-found.result) (omega arith) e g ∙ c.loop-k.invariant
 
 pub returns : goal.returns
 returns c =
@@ -52,5 +46,5 @@ returns c =
     ∙ flat-asked c.args.text.now c.args.memory.now c.args.name.now c.args.path.now c.args.asked c.args.owner c.begin-query.result w
     (c.begin-query.ensures ∙ ap (λ (j : ℕ). query_of c.args.text.now c.args.memory.now j c.args.name.now c.args.path.now c.args.asked c.args.owner) c.room_in.ensures)
     (sym (onwards-end c.args.text.now (env c.args.text.now c.args.memory.now c.begin-query.result.variables) (record { path = c.args.path.now; owner = c.begin-query.result.owner }) c.begin-query.result.words c.begin-query.result.profile c.args.memory.now c.begin-query.result.count w)
-    ∙ ap (λ (j : ℕ). all c.begin-query.result.count j w) e ∙ c.loop-k.invariant.1
+    ∙ ap (λ (j : ℕ). all c.begin-query.result.count j w) e ∙ c.loop-k.invariant
     ∙ onwards-first c.args.text.now (env c.args.text.now c.args.memory.now c.begin-query.result.variables) (record { path = c.args.path.now; owner = c.begin-query.result.owner }) c.begin-query.result.words c.begin-query.result.profile c.args.memory.now c.begin-query.result.count nothing)

@@ -1,5 +1,4 @@
 use Rattle.flat.specs.Layout.{front_at}
-use borrow.Author.Rules.{rules}
 use mathlib.Core.Path.{refl}
 use Rattle.flat.proofs.front_at.Goals as goal
 

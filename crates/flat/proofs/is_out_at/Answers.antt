@@ -1,6 +1,5 @@
 use Rattle.asking.specs.Steps.{out_of}
 use Rattle.flat.specs.Layout.{rule_at}
-use borrow.Author.Rules.{rules}
 use Rattle.flat.proofs.is_out_at.Goals as goal
 
 pub returns : goal.returns

@@ -1,5 +1,4 @@
 use Rattle.flat.specs.Layout.{rule_at}
-use borrow.Author.Rules.{rules}
 use Rattle.flat.proofs.rule_at.Goals as goal
 
 pub returns : goal.returns

@@ -1,34 +1,13 @@
-use native.Mathlib.Omega.{arith}
-use mathlib.Core.Path.{refl, sym, ap, ◌∙◌}
-use Prim.Native.Nat.{ℕ}
+use mathlib.Core.Path.{refl, ap, ◌∙◌}
 use mathlib.Core.List.{List}
-use Rattle.scan.specs.Bytes.{every, span}
+use Prim.Native.Nat.{ℕ}
+use native.Mathlib.Omega.{arith}
+use Rattle.std.proofs.lemmas.Grind.{common_steps}
+use Rattle.scan.specs.Bytes.{every}
 use Rattle.pattern.specs.Pieces.{parts}
 use Rattle.pattern.specs.Items.{good_part, value_form}
-use Rattle.pattern.specs.Reads.{seen_part}
-use Rattle.form.proofs.Laws.{parts-literals, parts_more, parts-stop, parts_all}
-use Rattle.pattern.proofs.Laws.{part_end-more}
 use Rattle.form.proofs.value_form.Goals as goal
-
-pub loop-i-init : goal.loop-i-init
-loop-i-init c =
-    sym (parts-literals good_part (λ b. refl) c.span-s.result.now 0 c.literal_end-i.result c.literal_end-i.ensures)
-    ∙ ap (λ (t : List ℕ). every good_part (parts 0 t)) c.span-s.ensures
-
-pub loop-i-smaller : goal.loop-i-smaller
-loop-i-smaller c = omega (arith, c.literal_end-i-then-good_part.ensures, c.part_end.ensures, part_end-more c.span-s.result.now c.loop-i.i (omega arith))
-
-pub loop-i-preserved : goal.loop-i-preserved
-loop-i-preserved c =
-    parts_more good_part (λ b. refl) c.span-s.result.now (span c.args.text.now c.args.a c.args.e) c.span-s.ensures c.loop-i.i (seen_part c.args.text.now c.part_at.result) c.part_at.ensures.is
-    (c.good_part.ensures c.args.text.now) (omega arith) c.loop-i.invariant c.if-good_part.true c.part_end.ensures c.literal_end-i-then-good_part.ensures
-
-pub returns-else-good_part : goal.returns-else-good_part
-unfolding value_form
-returns-else-good_part c =
-    parts-stop good_part (λ b. refl) c.span-s.result.now (span c.args.text.now c.args.a c.args.e) c.span-s.ensures c.loop-i.i (seen_part c.args.text.now c.part_at.result) c.part_at.ensures.is
-    (c.good_part.ensures c.args.text.now) (omega arith) c.loop-i.invariant c.if-good_part.false
 
 pub returns : goal.returns
 unfolding value_form
-returns c = parts_all good_part (λ b. refl) c.span-s.result.now c.loop-i.i (omega arith) c.loop-i.invariant
+returns c = c.every_part.ensures good_part (λ b. refl) (λ i r h g. grind (arith, common_steps)) ∙ ap (λ (t : List ℕ). every good_part (parts 0 t)) c.span.ensures

@@ -7,10 +7,10 @@ use Rattle.glob.specs.Glob.{matched_by}
 use Rattle.glob.proofs.Laws.{draft-gone, draft-whole}
 use Rattle.glob.proofs.match_expansion.Goals as goal
 
-pub returns-then-draft : goal.returns-then-draft
-returns-then-draft c = draft-gone c.args.text.now c.args.path.now c.args.slash _ c.requires c.write_pattern-draft.ensures (omega arith) c.if-draft.true
+pub returns-in_default : goal.returns-in_default
+returns-in_default c = draft-gone c.args.text.now c.args.path.now c.args.slash _ c.requires c.write_pattern.ensures (omega arith) c.in_default.is
 
 pub returns-then-count-lt-SHORT : goal.returns-then-count-lt-SHORT
 returns-then-count-lt-SHORT c =
     c.match_codes.ensures
-    ∙ ap (λ (x : List Piece). matched_by c.args.slash x c.args.path.now) (draft-whole c.args.text.now c.args.path.now c.args.slash _ c.requires c.write_pattern-draft.ensures (omega arith) c.if-draft.false (inr (omega arith)))
+    ∙ ap (λ (x : List Piece). matched_by c.args.slash x c.args.path.now) (draft-whole c.args.text.now c.args.path.now c.args.slash _ c.requires c.write_pattern.ensures (omega arith) c.in-Some.is (inr (omega arith)))

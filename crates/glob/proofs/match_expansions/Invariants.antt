@@ -1,11 +1,7 @@
-use Prim.Native.Nat.{◌-◌, ◌≤◌}
 use Rattle.scan.specs.Bytes.{span}
 use Rattle.sizes.specs.Numbered.{pattern_by}
 use Rattle.glob.proofs.Laws.{Tried}
 use Rattle.glob.proofs.match_expansions.Given as goal
 
 abbrev pub invariant-loop-d : goal.invariant-loop-d
-invariant-loop-d l = Tried l.slash (pattern_by l.text l.vars l.n l.sizes (span l.text l.a l.e)) l.path l.d l.some × (l.d ≤ l.count)
-
-abbrev pub decreases-loop-d : goal.decreases-loop-d
-decreases-loop-d l = l.count - l.d
+invariant-loop-d l = Tried l.slash (pattern_by l.text l.vars l.n l.sizes (span l.text l.a l.e)) l.path l.d l.some

@@ -4,12 +4,9 @@ use mathlib.Core.Path.{sym, ◌∙◌}
 use lib.ListN.{length}
 use Rattle.scan.specs.Bytes.{bytes}
 use Rattle.blanks.specs.Blanks.{standing}
-use Rattle.tokens.specs.Places.{seen}
-use Rattle.tokens.proofs.Laws.{no-token}
-use Rattle.rule_tail.proofs.Laws.{not-token}
 use Rattle.blanks.proofs.Laws.{stands-inside}
+use Rattle.text.proofs.Refusals.{seen-refused}
 use Rattle.heads.specs.Heads.{open_at}
-use Rattle.heads.specs.Places.{seen_open}
 use Rattle.heads.proofs.open_at.Goals as goal
 
 pub overflow_add-result : goal.overflow_add-result
@@ -19,13 +16,13 @@ overflow_add-result c =
     omega (arith, c.standing_at-brace.ensures)
 
 pub returns-then-stands_at : goal.returns-then-stands_at
-unfolding open_at seen_open bytes
+unfolding open_at bytes
 returns-then-stands_at c = rw (c.standing_at-brace.ensures, ← c.stands_at.ensures, c.if-stands_at.true, open_at)
 
-pub returns-in_default : goal.returns-in_default
-unfolding open_at seen_open bytes
-returns-in_default c = rw (← c.stands_at.ensures, c.if-stands_at.false, ← c.next_token-token.ensures, no-token c.args.text.now c.next_token-token.result (not-token _ c.in_default.not-Found), c.stop_of.ensures, open_at)
+pub returns-in_err-t : goal.returns-in_err-t
+unfolding open_at bytes
+returns-in_err-t c = seen-refused _ _ c.from_residual.ensures.1 ∙ rw (← c.stands_at.ensures, c.if-stands_at.false, ← c.next_token.ensures, ← c.in_err-t.ensures c.args.text.now, open_at)
 
 pub returns : goal.returns
-unfolding open_at seen seen_open bytes
-returns c = rw (← c.stands_at.ensures, c.if-stands_at.false, ← c.next_token-token.ensures, c.in-Found.is, seen, open_at)
+unfolding open_at bytes
+returns c = rw (← c.stands_at.ensures, c.if-stands_at.false, ← c.next_token.ensures, ← c.in_ok-t.ensures c.args.text.now, open_at)

@@ -11,11 +11,11 @@ returns-then-not-may_begin c = none-at c.args.inside c.args.text.now c.args.at.0
 
 pub returns-in_default : goal.returns-in_default
 returns-in_default c =
-    let k = c.next_token-r.ensures ∙ same-token c.args.inside c.args.text.now c.args.at.0 c.standing_at-place.result.0 c.standing_at-place.ensures in
-    rw (← k) (sym (not_found c.args.text.now c.next_token-r.result (search rules) (word_is (barred c.args.inside)) (λ n p. refl) (λ p. refl)))
+    let k = c.next_token.ensures ∙ same-token c.args.inside c.args.text.now c.args.at.0 c.standing_at-place.result.0 c.standing_at-place.ensures in
+    rw (← k) (sym (not_found c.args.text.now c.next_token.result (search rules) (word_is (barred c.args.inside)) (λ n p. refl) (λ p. refl)))
 
 pub returns : goal.returns
 unfolding seen
 returns c =
-    let k = c.next_token-r.ensures ∙ same-token c.args.inside c.args.text.now c.args.at.0 c.standing_at-place.result.0 c.standing_at-place.ensures in
+    let k = c.next_token.ensures ∙ same-token c.args.inside c.args.text.now c.args.at.0 c.standing_at-place.result.0 c.standing_at-place.ensures in
     rw (← k, c.in-Found.is, c.is_barred.ensures, c.content-word.ensures, seen)

@@ -1,10 +1,17 @@
+use mathlib.Core.Path.{sym, ap, ◌∙◌}
+use mathlib.Core.List.{List, [], ◌∷◌, ◌++◌}
+use Prim.Native.Nat.{ℕ}
+use native.Mathlib.Numerals.{add-one}
 use native.Mathlib.Omega.{arith}
-use Prim.Native.Nat.{suc, ◌+◌}
-use mathlib.Core.Path.{◌≡◌}
-use lib.Seq.{paste-suc}
+use lib.ListN.{get_or}
+use lib.Seq.{take-suc, take-suc-set, take_all}
 use Rattle.layout.proofs.copy.Goals as goal
 
 pub loop-i-preserved : goal.loop-i-preserved
 loop-i-preserved c =
-    let e : c.loop-i.i + 1 ≡ suc c.loop-i.i = omega arith in
-    (omega arith, (c.loop-i.invariant.1.0, rw (c.loop-i.invariant.1.1, e) (paste-suc c.args.buffer.now c.args.at c.args.bytes.now c.loop-i.i 0 (omega (arith, c.loop-i.invariant.1.0)) (omega arith))))
+    let i = c.loop-i.i in
+    rw (add-one, take-suc-set c.loop-i.part i (get_or c.args.bytes.now i 0) (omega arith), take-suc c.args.bytes.now i 0 (omega arith))
+    (ap (λ (s : List ℕ). s ++ (get_or c.args.bytes.now i 0 ∷ [])) c.loop-i.invariant)
+
+pub returns : goal.returns
+returns c = sym (take_all c.loop-i.i c.loop-i.part (omega arith)) ∙ c.loop-i.invariant ∙ take_all c.loop-i.i c.args.bytes.now (omega arith)

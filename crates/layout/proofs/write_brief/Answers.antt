@@ -11,7 +11,7 @@ use Rattle.layout.proofs.write_brief.Goals as goal
 pub lay-requires : goal.lay-requires
 lay-requires c = (c.head_of-head.ensures.value, brief-short c.span.result.now c.span-name.result.now c.span-name.ensures)
 
-pub returns : goal.returns
-returns c =
-    let e = c.head_of-head.ensures.same ∙ ap₂ (λ (w : Refusal) (n : ℕ). head_by w c.args.b.granted c.args.b.recorded n (length c.span-name.result.now)) c.refusal_of-refusal.ensures c.number.ensures in
-    rw (← laid-brief c.args.text.now c.args.b c.head_of-head.result c.span-name.result.now e (c.span-name.ensures ∙ ap (λ (s : List ℕ). span s 0 255) c.span.ensures)) c.lay.ensures
+pub returns-clause-written : goal.returns-clause-written
+returns-clause-written c =
+    let e = c.head_of-head.ensures.same ∙ ap₂ (λ (w : Refusal) (n : ℕ). head_by w c.args.b.granted c.args.b.recorded n (length c.span-name.result.now)) c.refusal_of.ensures c.number.ensures in
+    rw (← laid-brief c.args.text.now c.args.b c.head_of-head.result c.span-name.result.now e (c.span-name.ensures ∙ ap (λ (s : List ℕ). span s 0 255) c.span.ensures)) c.lay.ensures.written

@@ -1,21 +1,19 @@
-use mathlib.Core.Path.{sym, ◌∙◌}
-use mathlib.Core.Bool.{true, false}
-use native.Mathlib.Nat.{zero-add}
-use native.Mathlib.Omega.{arith}
-use Rattle.matcher.proofs.Back.{back_at, back-short, back_end}
+use Rattle.std.proofs.Common.{rules, tests}
+use mathlib.Core.Path.{◌∙◌}
+use mathlib.Core.List.{reverse}
+use Rattle.std.proofs.lemmas.Iterator.{YieldsList-from_zip}
+use Rattle.std.proofs.lemmas.Iterator.Adapters.{YieldsList-from_rev_slice}
+use Rattle.std.proofs.lemmas.Iterator.Consumers.{count_from_yields_List}
+use Rattle.std.proofs.lemmas.Iterator.Search.{YieldsList-from_take_while}
+use Rattle.std.proofs.lemmas.List.Folds.{length-prefix_len}
+use Rattle.std.specs.List.{zip}
+use Rattle.matcher.proofs.Front.{takes_pair, taken_zip}
 use Rattle.matcher.proofs.taken_back.Goals as goal
 
-pub loop-i-init : goal.loop-i-init
-loop-i-init c = (omega arith, zero-add _)
-
-pub returns-then-path-i : goal.returns-then-path-i
-returns-then-path-i c = omega (arith, c.loop-i.invariant.1, back-short c.args.text.now c.args.codes.now c.args.path.now c.loop-i.i c.if-path-i.true)
-
-pub returns-then-not-takes_one : goal.returns-then-not-takes_one
-returns-then-not-takes_one c = omega (arith, c.loop-i.invariant.1, back_at c.args.text.now c.args.codes.now c.args.path.now c.loop-i.i (omega arith) (omega arith) false (sym (c.if-not-takes_one.true) ∙ c.takes_one.ensures))
-
-pub loop-i-preserved : goal.loop-i-preserved
-loop-i-preserved c = (omega arith, omega (arith, c.loop-i.invariant.1, back_at c.args.text.now c.args.codes.now c.args.path.now c.loop-i.i (omega arith) (omega arith) true (sym (c.if-not-takes_one.false) ∙ c.takes_one.ensures)))
-
 pub returns : goal.returns
-returns c = omega (arith, c.loop-i.invariant.1, back_end c.args.text.now c.args.codes.now c.args.path.now c.loop-i.i (omega arith))
+returns c =
+    count_from_yields_List c.take_while.result _ c.count.ensures.ran
+    (YieldsList-from_take_while _ (takes_pair c.args.text.now) (YieldsList-from_zip (YieldsList-from_rev_slice c.args.codes.now cc) (YieldsList-from_rev_slice c.args.path.now cc)) c.take_while.ensures.closure c.take_while.ensures.done
+    (λ x b q k. search (rules, tests)))
+    ∙ length-prefix_len (takes_pair c.args.text.now) (zip (reverse c.args.codes.now) (reverse c.args.path.now))
+    ∙ taken_zip c.args.text.now (reverse c.args.codes.now) (reverse c.args.path.now)

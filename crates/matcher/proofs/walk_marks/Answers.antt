@@ -1,4 +1,3 @@
-use borrow.Author.Rules.{rules}
 use mathlib.Core.Path.{◌≡◌, ◌∙◌}
 use native.Mathlib.Omega.{arith}
 use lib.ListN.{length}
@@ -8,20 +7,19 @@ use Rattle.pattern.specs.Codes.{decode}
 use Rattle.matcher.proofs.Laws.{first_marks, more-pieces, dead}
 use Rattle.matcher.proofs.walk_marks.Goals as goal
 
-pub loop-k-init : goal.loop-k-init
-loop-k-init c = (search rules, λ j h. first_marks 4095 c.args.path.now j h (omega arith))
+pub loop-code-init : goal.loop-code-init
+loop-code-init g c = λ j h. first_marks g.row.N c.args.path.now j h (omega (arith, c.requires.room))
 
-pub loop-k-preserved : goal.loop-k-preserved
-loop-k-preserved c = (
-  omega arith,
-  λ j h. c.step-s.ensures.by_index j h
-      ∙ more-pieces (decode c.args.text.now) c.args.codes.now c.loop-k.k (omega arith) c.args.path.now c.loop-k.marks c.loop-k.invariant.1 j h,
-)
+pub loop-code-preserved : goal.loop-code-preserved
+loop-code-preserved g c =
+    λ j h. c.in-Some.ensures j h
+    ∙ more-pieces (decode c.args.text.now) c.args.codes.now c.loop-code.code-index (omega arith) c.args.path.now c.loop-code.marks c.loop-code.invariant j h
 
-pub returns-else-s : goal.returns-else-s
-returns-else-s c = dead (decode c.args.text.now) c.args.codes.now c.loop-k.k (omega arith) c.args.path.now c.loop-k.marks c.step-s.result.alive c.loop-k.invariant.1 c.step-s.ensures.alive_value c.if-s.false
+pub returns-in_default : goal.returns-in_default
+returns-in_default g c =
+    dead (decode c.args.text.now) c.args.codes.now c.loop-code.code-index (omega arith) c.args.path.now c.loop-code.marks c.loop-code.invariant (rw c.in_default.is at c.step.ensures)
 
 pub returns : goal.returns
-returns c =
-    let e : c.loop-k.k ≡ length c.args.codes.now = omega arith in
-    c.loop-k.invariant.1 (length c.args.path.now) (le_refl (length c.args.path.now)) ∙ rw (e, take-length c.args.path.now, take-length c.args.codes.now)
+returns g c =
+    let e : c.loop-code.code-index ≡ length c.args.codes.now = omega arith in
+    c.loop-code.invariant (length c.args.path.now) (le_refl (length c.args.path.now)) ∙ rw (e, take-length c.args.path.now, take-length c.args.codes.now)

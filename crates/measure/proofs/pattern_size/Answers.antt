@@ -1,41 +1,21 @@
-use borrow.Author.Rules.{rules}
 use native.Mathlib.Omega.{arith}
-use mathlib.Core.Path.{sym, ap, ◌∙◌}
 use Prim.Native.Nat.{ℕ, min}
+use mathlib.Core.Path.{ap, ◌∙◌}
 use mathlib.Core.List.{List}
-use Rattle.scan.proofs.Laws.{run_inside}
-use Rattle.pattern.specs.Literals.{ordinary}
-use Rattle.pattern.specs.Places.{item_at}
-use Rattle.pattern.specs.Reads.{seen_item}
 use Rattle.pattern.proofs.Laws.{item_end-le, item_end-more}
 use Rattle.sizes.specs.Numbered.{name_by, pattern_by}
-use Rattle.sizes.proofs.Loops.{items-first, items_more, items-all}
+use Rattle.sizes.proofs.Loops.{items_from, items-literals, items_end, items_step}
 use Rattle.measure.proofs.pattern_size.Goals as goal
 
-pub literals_size-size-requires : goal.literals_size-size-requires
-literals_size-size-requires c = omega (arith, c.literal_end-at.ensures, run_inside ordinary c.span-s.result.now 0 (omega arith))
-
-pub loop-at-init : goal.loop-at-init
-loop-at-init c = (
-  omega (arith, c.literal_end-at.ensures, run_inside ordinary c.span-s.result.now 0 (omega arith)),
-  items-first (name_by c.args.text.now c.args.vars.now c.args.sizes.now (min 32 c.args.n)) c.span-s.result.now c.literal_end-at.result c.literal_end-at.ensures c.literals_size-size.ensures,
-)
-
-pub literals_size-requires : goal.literals_size-requires
-literals_size-requires c = omega (arith, c.literal_end-at-in-loop-at.ensures, run_inside ordinary c.span-s.result.now c.item_end-from.result (omega (arith, c.item_end-from.ensures, item_end-le c.span-s.result.now c.loop-at.at)))
-
-pub loop-at-smaller : goal.loop-at-smaller
-loop-at-smaller c = omega (arith, c.literal_end-at-in-loop-at.ensures, c.item_end-from.ensures, item_end-more c.span-s.result.now c.loop-at.at (search rules))
-
-pub loop-at-preserved : goal.loop-at-preserved
-loop-at-preserved c = (
-  omega (arith, c.literal_end-at-in-loop-at.ensures, run_inside ordinary c.span-s.result.now c.item_end-from.result (omega (arith, c.item_end-from.ensures, item_end-le c.span-s.result.now c.loop-at.at))),
-  items_more (name_by c.args.text.now c.args.vars.now c.args.sizes.now (min 32 c.args.n)) c.span-s.result.now c.loop-at.at c.item_end-from.result c.literal_end-at-in-loop-at.result c.literal_end-at-in-loop-at.ensures c.literals_size.ensures c.times.ensures c.times-size.ensures
-      c.loop-at.invariant.1 (search rules) (seen_item c.args.text.now c.item_at-i.result) (c.item_at-i.ensures ∙ ap (λ (t : List ℕ). item_at t c.loop-at.at) (sym c.span-s.ensures)) c.item_end-from.ensures
-      c.item_size-one.ensures,
-)
+pub sized-requires-clause-ahead : goal.sized-requires-clause-ahead
+sized-requires-clause-ahead c i next w h k = (omega (arith, item_end-more c.span-s.result.now i h), omega (arith, item_end-le c.span-s.result.now i))
 
 pub returns : goal.returns
 returns c =
-    items-all (name_by c.args.text.now c.args.vars.now c.args.sizes.now (min 32 c.args.n)) c.span-s.result.now c.loop-at.at c.loop-at.invariant.1 (search rules)
+    let f = name_by c.args.text.now c.args.vars.now c.args.sizes.now (min 32 c.args.n) in
+    c.sized.ensures (items_from f c.span-s.result.now) (record {
+      literals = λ i end e. items-literals f c.span-s.result.now i end e;
+      nothing = λ i h. items_end f c.span-s.result.now i h;
+      other = λ i next z w h k m. items_step f c.span-s.result.now i next z h (cc) (cc);
+    })
     ∙ ap (λ (t : List ℕ). (pattern_by c.args.text.now c.args.vars.now c.args.n c.args.sizes.now t).size) c.span-s.ensures

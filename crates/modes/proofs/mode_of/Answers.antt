@@ -1,17 +1,23 @@
-use mathlib.Core.Path.{refl, sym, ◌∙◌}
-use native.Mathlib.Omega.{arith}
-use Rattle.modes.specs.Modes.{modes}
-use Rattle.modes.proofs.Table.{mode-here, mode-later, mode-end}
+use mathlib.Core.Path.{◌≡◌, refl, sym, ap}
+use mathlib.Core.List.{map}
+use Rattle.std.proofs.Common.{rules, tests, None, Some}
+use Rattle.std.proofs.lemmas.Iterator.{YieldsList-from_slice}
+use Rattle.std.proofs.lemmas.Iterator.Search.{find_from_yields_List}
+use Rattle.std.specs.Option.{MatchOption}
+use Rattle.scan.specs.Bytes.{bytes}
+use Rattle.modes.specs.Modes.{modes, mode_in}
+use Rattle.modes.proofs.Table.{coded, has_word, mode-found}
 use Rattle.modes.proofs.mode_of.Goals as goal
+use Rattle.modes.proofs.mode_of.Goals.{After-find}
 
-pub loop-i-init : goal.loop-i-init
-loop-i-init c = (omega arith, refl)
+found : (c : After-find) → MatchOption c.find.result (mode_in modes c.args.word.now ≡ None) (λ r. mode_in modes c.args.word.now ≡ Some r.now.1)
+unfolding bytes
+found c =
+    mode-found c.args.word.now c.iter.result.rest.now (ap (map coded) c.iter.ensures.rest) c.find.result
+    (find_from_yields_List (has_word c.args.word.now) _ _ c.find.result c.find.ensures.ran (YieldsList-from_slice c.iter.result.rest.now refl) (λ x b q k. search (rules, tests)))
 
-pub returns-then-is_row : goal.returns-then-is_row
-returns-then-is_row c = rw c.mode_at.ensures (sym (mode-here modes c.args.word.now c.loop-i.i (omega arith) (sym c.is_row.ensures ∙ c.if-is_row.true)) ∙ c.loop-i.invariant.1)
+pub returns-in-Some : goal.returns-in-Some
+returns-in-Some c = sym (rw c.in-Some.is at (found (goal.at.returns-in-Some c).After-find))
 
-pub loop-i-preserved : goal.loop-i-preserved
-loop-i-preserved c = (omega arith, sym (mode-later modes c.args.word.now c.loop-i.i (omega arith) (sym c.is_row.ensures ∙ c.if-is_row.false)) ∙ c.loop-i.invariant.1)
-
-pub returns : goal.returns
-returns c = sym (mode-end modes c.args.word.now c.loop-i.i (omega arith)) ∙ c.loop-i.invariant.1
+pub returns-in-None : goal.returns-in-None
+returns-in-None c = sym (rw c.in-None.is at (found (goal.at.returns-in-None c).After-find))

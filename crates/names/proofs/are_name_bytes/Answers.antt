@@ -1,17 +1,9 @@
-use native.Mathlib.Omega.{arith}
-use mathlib.Core.Path.{refl, sym, ◌∙◌}
+use Rattle.std.proofs.Common.{rules, tests}
+use Rattle.std.proofs.lemmas.Iterator.{YieldsList-from_slice}
+use Rattle.std.proofs.lemmas.Iterator.Search.{all_from_yields_List}
 use Rattle.names.specs.Names.{name_byte}
-use Rattle.names.proofs.Laws.{every-end, every_more, every-stop}
+use Rattle.scan.proofs.Laws.{every_all}
 use Rattle.names.proofs.are_name_bytes.Goals as goal
 
-pub loop-i-init : goal.loop-i-init
-loop-i-init c = refl
-
-pub loop-i-preserved : goal.loop-i-preserved
-loop-i-preserved c = sym (every_more (name_byte c.args.quoted) c.args.name.now c.loop-i.i (omega arith) (sym c.is_name_byte.ensures ∙ c.if-is_name_byte.true)) ∙ c.loop-i.invariant
-
-pub returns-else-is_name_byte : goal.returns-else-is_name_byte
-returns-else-is_name_byte c = sym (every-stop (name_byte c.args.quoted) c.args.name.now c.loop-i.i (omega arith) (sym c.is_name_byte.ensures ∙ c.if-is_name_byte.false)) ∙ c.loop-i.invariant
-
 pub returns : goal.returns
-returns c = sym (every-end (name_byte c.args.quoted) c.args.name.now c.loop-i.i (omega arith)) ∙ c.loop-i.invariant
+returns c = rw every_all (all_from_yields_List (name_byte c.args.quoted) _ _ _ c.all.ensures.ran (YieldsList-from_slice c.args.name.now cc) λ x b q k. search (rules, tests))

@@ -1,14 +1,12 @@
+use mathlib.Core.Path.{sym}
+use borrow.Author.Rules.{rules}
 use Rattle.tokens.specs.Places.{seen}
+use Rattle.profile.proofs.Laws.{not-end}
 use Rattle.profile.proofs.ends_at.Goals as goal
-
-pub returns-in-Found : goal.returns-in-Found
-unfolding seen
-returns-in-Found c = rw (← c.next_token.ensures, c.in-Found.is, seen)
-
-pub returns-in-Stopped : goal.returns-in-Stopped
-unfolding seen
-returns-in-Stopped c = rw (← c.next_token.ensures, c.in-Stopped.is, seen)
 
 pub returns-in-End : goal.returns-in-End
 unfolding seen
 returns-in-End c = rw (← c.next_token.ensures, c.in-End.is, seen)
+
+pub returns-in_default : goal.returns-in_default
+returns-in_default c = rw (← c.next_token.ensures) (sym (not-end c.args.text.now c.next_token.result (search rules)))

@@ -1,4 +1,3 @@
-use borrow.Author.Rules.{rules}
 use native.Mathlib.Omega.{arith}
 use Prim.Native.Nat.{◌+◌}
 use mathlib.Core.Path.{◌≡◌, sym, ◌∙◌}
@@ -9,12 +8,12 @@ use Rattle.request.proofs.Laws.{broken-none, broken-block, broken-add, broken-pa
 use Rattle.request.proofs.is_block_broken.Goals as goal
 
 pub loop-i-init : goal.loop-i-init
-loop-i-init c = (search rules, sym (broken-none _))
+loop-i-init c = sym (broken-none _)
 
 pub loop-i-preserved : goal.loop-i-preserved
-loop-i-preserved c = (omega arith, rw (or_assoc, broken-add c.loop-i.i 1 (drop c.args.at c.args.path.now), drop-drop, broken-pair c.args.path.now (c.args.at + c.loop-i.i) (omega arith), ← c.loop-i.invariant.1))
+loop-i-preserved c = rw (or_assoc, broken-add c.loop-i.i 1 (drop c.args.at c.args.path.now), drop-drop, broken-pair c.args.path.now (c.args.at + c.loop-i.i) (omega arith), ← c.loop-i.invariant)
 
 pub returns : goal.returns
 returns c =
     let e : c.loop-i.i ≡ 16 = omega arith in
-    (rw e at c.loop-i.invariant.1) ∙ broken-block _
+    (rw e at c.loop-i.invariant) ∙ broken-block _

@@ -2,10 +2,10 @@ use borrow.Author.Rules.{rules}
 use native.Mathlib.Omega.{arith}
 use Prim.Native.Nat.{◌+◌, ◌-◌}
 use mathlib.Core.Path.{◌≡◌, sym, ◌∙◌}
-use mathlib.Core.Bool.{or_assoc, or-false}
+use mathlib.Core.Bool.{or-false}
 use lib.ListN.{length, drop}
 use lib.Seq.{drop-drop}
-use Rattle.request.proofs.Laws.{broken_in, broken-none, broken-add, broken-block, broken-last, broken-cover}
+use Rattle.request.proofs.Laws.{broken_in, broken-none, broken-add, broken-block, broken-last, broken-cover, broken-more_block}
 use Rattle.request.proofs.is_broken.Goals as goal
 
 pub loop-at-init : goal.loop-at-init
@@ -16,9 +16,12 @@ loop-at-init c =
     (search rules, rw (broken-none, or-false, block, broken-add 16 1 (drop last c.args.path.now), drop-drop, e, broken-last c.args.path.now (length c.args.path.now - 1) (omega arith)))
 
 pub loop-at-preserved : goal.loop-at-preserved
-loop-at-preserved c =
-    let block : c.is_block_broken-broken.result ≡ broken_in 16 (drop c.loop-at.at c.args.path.now) = c.is_block_broken-broken.ensures ∙ sym (broken-block _) in
-    (omega arith, rw (broken-add c.loop-at.at 16 c.args.path.now, block, c.loop-at.invariant.1) (simp or_assoc))
+loop-at-preserved c = (omega arith, broken-more_block c.args.path.now c.loop-at.at _ _ _ c.loop-at.invariant.1 c.is_block_broken-broken.ensures)
 
-pub returns : goal.returns
-returns c = c.loop-at.invariant.1 ∙ broken-cover c.args.path.now (length c.args.path.now - 17) c.loop-at.at 17 (omega arith) (omega arith) (omega arith)
+pub returns-else-n-lt17 : goal.returns-else-n-lt17
+returns-else-n-lt17 c = c.loop-at.invariant.1 ∙ broken-cover c.args.path.now (length c.args.path.now - 17) c.loop-at.at 17 (omega arith) (omega arith) (omega arith)
+
+pub returns-else-n-lt17-2 : goal.returns-else-n-lt17-2
+returns-else-n-lt17-2 c =
+    broken-more_block c.args.path.now c.loop-at.at _ _ _ c.loop-at.invariant.1 c.is_block_broken-broken.ensures
+    ∙ broken-cover c.args.path.now (length c.args.path.now - 17) (c.loop-at.at + 16) 17 (omega arith) (omega arith) (omega arith)

@@ -1,21 +1,24 @@
 use mathlib.Core.Path.{ap, ◌∙◌}
+use Rattle.text.proofs.Refusals.{seen-refused}
 use Rattle.statement.specs.Steps.{step_by}
-use Rattle.statement.specs.Places.{seen_step}
-use Rattle.statement.proofs.Laws.{by-close, by-refused, by-rule}
+use Rattle.statement.proofs.Laws.{by-start}
 use Rattle.statement.proofs.rule_again.Goals as goal
 
+pub returns-in_err-start-clause-result_value : goal.returns-in_err-start-clause-result_value
+returns-in_err-start-clause-result_value c =
+    seen-refused _ _ c.from_residual.ensures.1 ∙ by-start (λ _. 0) c.args.text.now c.args.at.0 c.standing_at-place.ensures c.in_err-start.ensures
+
 pub returns-in-Close-clause-result_value : goal.returns-in-Close-clause-result_value
-unfolding seen_step
 returns-in-Close-clause-result_value c =
-    by-close (λ _. 0) c.args.text.now c.args.at.0 c.standing_at-place.ensures c.start_at.ensures c.in-Close.is
+    by-start (λ _. 0) c.args.text.now c.args.at.0 c.standing_at-place.ensures (rw c.in-Close.is at c.in_ok-start.ensures)
 
-pub returns-in-Refused-clause-result_value : goal.returns-in-Refused-clause-result_value
-unfolding seen_step
-returns-in-Refused-clause-result_value c =
-    by-refused (λ _. 0) c.args.text.now c.args.at.0 c.standing_at-place.ensures c.start_at.ensures c.in-Refused.is
+pub returns-in_err-read-in-Pattern-clause-result_value : goal.returns-in_err-read-in-Pattern-clause-result_value
+returns-in_err-read-in-Pattern-clause-result_value c =
+    seen-refused _ _ c.from_residual-in_err-read-in-Pattern.ensures.1
+    ∙ ap step_by c.in_err-read-in-Pattern.ensures.result_value
+    ∙ by-start (λ _. 0) c.args.text.now c.args.at.0 c.standing_at-place.ensures (rw c.in-Pattern.is at c.in_ok-start.ensures)
 
-pub returns-in-Pattern-clause-result_value : goal.returns-in-Pattern-clause-result_value
-returns-in-Pattern-clause-result_value c =
-    c.step_of.ensures.is c.args.text.now
-    ∙ ap step_by c.rule_rest.ensures.result_value
-    ∙ by-rule (λ _. 0) c.args.text.now c.args.at.0 c.standing_at-place.ensures c.start_at.ensures c.in-Pattern.is
+pub returns-in_ok-read-in-Pattern-clause-result_value : goal.returns-in_ok-read-in-Pattern-clause-result_value
+returns-in_ok-read-in-Pattern-clause-result_value c =
+    ap step_by c.in_ok-read-in-Pattern.ensures.result_value
+    ∙ by-start (λ _. 0) c.args.text.now c.args.at.0 c.standing_at-place.ensures (rw c.in-Pattern.is at c.in_ok-start.ensures)

@@ -1,19 +1,16 @@
+use mathlib.Core.Path.{◌∙◌}
+use Rattle.text.proofs.Refusals.{seen-refused}
 use Rattle.rule.specs.Rules.{rule_end}
-use Rattle.rule_tail.specs.Places.{seen_comma, seen_target}
-use Rattle.statement.specs.Places.{seen_rule}
 use Rattle.statement.proofs.rule_end.Goals as goal
 
-pub returns-in-Refused-clause-result_value : goal.returns-in-Refused-clause-result_value
-unfolding rule_end seen_comma seen_rule seen_target
-returns-in-Refused-clause-result_value c =
-    rw (← c.target_at.ensures, c.in-Refused.is, seen_target, rule_end)
+pub returns-in_err-to-clause-result_value : goal.returns-in_err-to-clause-result_value
+unfolding rule_end
+returns-in_err-to-clause-result_value c = seen-refused _ _ c.from_residual.ensures.1 ∙ rw (← c.in_err-to.ensures, rule_end)
 
-pub returns-in-Refused-comma_at-clause-result_value : goal.returns-in-Refused-comma_at-clause-result_value
-unfolding rule_end seen_comma seen_rule seen_target
-returns-in-Refused-comma_at-clause-result_value c =
-    rw (← c.target_at.ensures, c.in-Good.is, seen_target, ← c.comma_at.ensures, c.in-Refused-comma_at.is, seen_comma, rule_end)
+pub returns-in_err-next-clause-result_value : goal.returns-in_err-next-clause-result_value
+unfolding rule_end
+returns-in_err-next-clause-result_value c = seen-refused _ _ c.from_residual-in_err-next.ensures.1 ∙ rw (← c.in_ok-to.ensures, ← c.in_err-next.ensures, rule_end)
 
-pub returns-in-Good-comma_at-clause-result_value : goal.returns-in-Good-comma_at-clause-result_value
-unfolding rule_end seen_comma seen_rule seen_target
-returns-in-Good-comma_at-clause-result_value c =
-    rw (← c.target_at.ensures, c.in-Good.is, seen_target, ← c.comma_at.ensures, c.in-Good-comma_at.is, seen_comma, rule_end)
+pub returns-clause-result_value : goal.returns-clause-result_value
+unfolding rule_end
+returns-clause-result_value c = rw (← c.in_ok-to.ensures, ← c.in_ok-next.ensures, rule_end)

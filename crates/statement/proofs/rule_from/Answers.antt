@@ -1,11 +1,10 @@
 use mathlib.Core.Path.{◌∙◌}
 use Rattle.rule.specs.Rules.{rule_from}
-use Rattle.statement.specs.Places.{seen_rule}
 use Rattle.statement.proofs.Laws.{judged-bad}
 use Rattle.statement.proofs.rule_from.Goals as goal
 
 pub returns-then-fault-ne0-clause-result_value : goal.returns-then-fault-ne0-clause-result_value
-unfolding rule_from seen_rule
+unfolding rule_from
 returns-then-fault-ne0-clause-result_value c =
     rw (← c.pattern_fault-fault.ensures, judged-bad _ _ c.if-fault-ne0.true, rule_from)
 

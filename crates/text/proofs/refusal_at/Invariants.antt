@@ -1,11 +1,12 @@
-use Prim.Native.Nat.{◌+◌, ◌-◌, ◌≤◌}
+use Prim.Native.Nat.{◌+◌, ◌≤◌}
 use mathlib.Core.Path.{◌≡◌}
-use lib.ListN.{length}
 use Rattle.text.specs.Reading.{line_of, column_of}
 use Rattle.text.proofs.refusal_at.Given as goal
 
-abbrev pub invariant-loop-i : goal.invariant-loop-i
-invariant-loop-i l = (l.i ≤ length l.before) × (l.line ≤ l.i + 1) × (l.column ≤ l.i + 1) × (l.line ≡ line_of l.before l.i) × (l.column ≡ column_of l.before l.i)
-
-abbrev pub decreases-loop-i : goal.decreases-loop-i
-decreases-loop-i l = length l.before - l.i
+abbrev pub invariant-loop-b : goal.invariant-loop-b
+invariant-loop-b l = record {
+  line_fits : l.line ≤ l.b-index + 1;
+  column_fits : l.column ≤ l.b-index + 1;
+  line_so_far : l.line ≡ line_of l.before l.b-index;
+  column_so_far : l.column ≡ column_of l.before l.b-index;
+}

@@ -1,5 +1,7 @@
-use native.Mathlib.Nat.{sub-zero}
+use mathlib.Core.Path.{sym, ◌∙◌}
+use lib.ListN.{length, take}
+use Rattle.scan.proofs.Laws.{same-turned}
 use Rattle.text.proofs.starts_with.Goals as goal
 
 pub returns : goal.returns
-returns c = rw (c.span.ensures, sub-zero) at c.same_bytes.ensures
+returns c = c.starts_with.ensures.value ∙ sym (same-turned (take (length c.args.word.now) c.args.s.now) c.args.word.now)

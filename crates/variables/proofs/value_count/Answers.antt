@@ -6,5 +6,5 @@ use Rattle.variables.proofs.value_count.Goals as goal
 pub returns-then-w-lt32 : goal.returns-then-w-lt32
 returns-then-w-lt32 c = rw (lt-ltb _ _ c.if-w-lt32.true) (c.least.ensures ∙ ap (min 16) c.cell.ensures)
 
-pub returns : goal.returns
-returns c = rw (le-ltb _ _ c.if-w-lt32.false)
+pub returns-else-w-lt32 : goal.returns-else-w-lt32
+returns-else-w-lt32 c = rw (le-ltb _ _ c.if-w-lt32.false)
