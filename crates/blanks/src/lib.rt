@@ -28,7 +28,9 @@ fn comment_end(text: &[u8], at: usize) -> usize
     scan::end_of(text, at, |b| !((b == b'\n') | (b == 0)))
 }
 
-// The place of what stands next, after blanks and comments; a NUL and #include are neither.
+// The place of what stands next, after blanks and comments; a NUL and #include are neither. Put into its callers: it is asked for
+// several times a token, and mostly nothing is passed over.
+#[inline(always)]
 pub fn standing_at(text: &[u8], at: Place) -> Place
     ensures { result.0 ≡ standing text.now at.0 }
 {

@@ -10,7 +10,8 @@ use lib.Dec.{eqb, ltb}
 use borrow.Author.Tests.{eq-eqb, ne_eqb, lt-ltb}
 use Rattle.std.specs.List.{list_any}
 use Rattle.scan.specs.Bytes.{begins, between, some, every}
-use Rattle.scan.proofs.Laws.{some_any}
+use lib.Seq.{drop-cons}
+use Rattle.scan.proofs.Laws.{some_any, no_length}
 use Rattle.class.specs.Class.{Range, ranges, members, negated, listed, in_class, good_range, good_class}
 
 ranges-skip : (k : ℕ) (s : List ℕ) → ranges k s ≡ ranges 0 (drop k s)
@@ -42,6 +43,32 @@ ranges-one s a (b ∷ []) q e = rw q (go (eqb b (code "-")))
     go true = refl
     go false = refl
 ranges-one s a (b ∷ c ∷ l) q e = rw q (rw (ne_eqb b (code "-") (rw q at e (omega arith)), ranges))
+
+-- a byte against the first range, and against those behind it
+module _ (b : ℕ) (s : List ℕ) where
+  module _ (h : 2 < length s) (e : get_or s 1 0 ≡ code "-") where
+    pub pair-holds : between (get_or s 0 0) (get_or s 2 0) b ≡ true → some (λ (r : Range). between r.low r.high b) (ranges 0 s) ≡ true
+    unfolding some
+    pair-holds t = rw (ranges-pair s h e, t)
+
+    pub pair-passed : between (get_or s 0 0) (get_or s 2 0) b ≡ false →
+        some (λ (r : Range). between r.low r.high b) (ranges 0 s) ≡ some (λ (r : Range). between r.low r.high b) (ranges 0 (drop 3 s))
+    unfolding some
+    pair-passed t = rw (ranges-pair s h e, t)
+
+  module _ (h : 0 < length s) (e : 2 < length s → get_or s 1 0 ≡ code "-" → ⊥) where
+    pub one-holds : between (get_or s 0 0) (get_or s 0 0) b ≡ true → some (λ (r : Range). between r.low r.high b) (ranges 0 s) ≡ true
+    unfolding some
+    one-holds t = rw (ranges-one s (get_or s 0 0) (drop 1 s) (drop-cons s 0 0 h) e, t)
+
+    pub one-passed : between (get_or s 0 0) (get_or s 0 0) b ≡ false →
+        some (λ (r : Range). between r.low r.high b) (ranges 0 s) ≡ some (λ (r : Range). between r.low r.high b) (ranges 0 (drop 1 s))
+    unfolding some
+    one-passed t = rw (ranges-one s (get_or s 0 0) (drop 1 s) (drop-cons s 0 0 h) e, t)
+
+  pub held-none : length s ≡ 0 → some (λ (r : Range). between r.low r.high b) (ranges 0 s) ≡ false
+  unfolding some ranges
+  held-none h = rw (no_length s h)
 
 -- the members, and whether there is one
 pub good-none : (s : List ℕ) → members s ≡ [] → good_class s ≡ false

@@ -2,7 +2,8 @@
 #![tactic(auto)]
 
 ghost use Rattle.std.specs.Prelude.{◌≡◌};
-ghost use Rattle.class.specs.Class.{good_class, good_range, in_class, member_byte, members, negated};
+ghost use Rattle.scan.specs.Bytes.{between, some};
+ghost use Rattle.class.specs.Class.{Range, good_class, good_range, in_class, member_byte, members, negated, ranges};
 ghost use Rattle.class.specs.Members.{left};
 
 use scan::is_between;
@@ -52,11 +53,33 @@ fn members(class: &[u8]) -> Ranges
     Ranges { left: class }
 }
 
+// Whether some range of the members holds the byte. By hand: an iterator gives the two ends of a range as one value, which costs
+// half as much again for each byte of a path.
+fn is_listed(members: &[u8], b: u8) -> bool
+    ensures { result ≡ some (λ (r : Range). between r.low r.high b) (ranges 0 members.now) }
+{
+    let mut left = members;
+    while let [low, behind @ ..] = left {
+        if let [_, b'-', high, rest @ ..] = left {
+            if is_between(*low, *high, b) {
+                return true;
+            }
+            left = rest;
+        } else {
+            if is_between(*low, *low, b) {
+                return true;
+            }
+            left = behind;
+        }
+    }
+    false
+}
+
 // Whether a class takes the byte, by what stands in its brackets.
 pub fn in_class(class: &[u8], b: u8) -> bool
     ensures { result ≡ in_class class.now b }
 {
-    let listed = members(class).any(|(low, high)| is_between(low, high, b)) & (b != b'/');
+    let listed = is_listed(members(class).left, b) & (b != b'/');
     if negated(class) {
         return !listed;
     }

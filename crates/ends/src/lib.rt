@@ -17,10 +17,15 @@ pub fn is_ordinary(b: u8) -> bool
     if (b'a' <= b) & (b <= b'z') {
         return true;
     }
-    !matches!(
-        b,
-        b'\\' | b'?' | b'*' | b'[' | b']' | b'{' | b'}' | b'@' | b'^'
-    )
+    !((b == b'\\')
+        | (b == b'?')
+        | (b == b'*')
+        | (b == b'[')
+        | (b == b']')
+        | (b == b'{')
+        | (b == b'}')
+        | (b == b'@')
+        | (b == b'^'))
 }
 
 // The place after the ordinary bytes from a place on.

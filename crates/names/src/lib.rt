@@ -75,7 +75,7 @@ fn variable_form(s: &[u8]) -> bool
     ensures { result ≡ variable_form s.now }
 {
     if let [first, rest @ ..] = s {
-        return is_letter(*first) & rest.iter().all(|b| is_variable_byte(*b));
+        return is_letter(*first) && rest.iter().all(|b| is_variable_byte(*b));
     }
     false
 }

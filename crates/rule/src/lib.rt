@@ -37,7 +37,8 @@ struct Optional {
     token: Read,
 }
 
-// A word that may stand at a place, where the next token is known.
+// A word that may stand at a place, where the next token is known. Put into its callers, so that each compares with a known word.
+#[inline(always)]
 fn take_word(text: &[u8], at: Place, token: Read, word: &[u8]) -> Optional
     ensures { seen text.now token ≡ token_at no_stop text.now at.0 → Taken text.now word.now at.0 result }
 {

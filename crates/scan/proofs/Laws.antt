@@ -1,5 +1,5 @@
 -- What the definitions of bytes say at a place of a text.
-use Prim.Native.Nat.{ℕ, zero, suc, ◌+◌, ◌≤◌, ◌<◌, ◌-◌, min}
+use Prim.Native.Nat.{ℕ, zero, suc, ◌+◌, ◌≤◌, ◌<◌, ◌-◌, min, max}
 use mathlib.Core.Path.{◌≡◌, refl, ap, ap₂, sym, ◌∙◌}
 use mathlib.Core.List.{List, [], ◌∷◌, ◌++◌}
 use mathlib.Core.Bool.{Bool, true, false, ◌&&◌, ◌||◌, or_assoc, false≢true}
@@ -12,10 +12,6 @@ use native.Mathlib.Numerals.{add-one}
 use native.Mathlib.Omega.{arith}
 use borrow.Author.Tests.{ltb-true, ltb-false, eq-eqb, ne_eqb, eqb-true, eqb-false}
 use Rattle.std.specs.List.{list_all, list_any}
-use Rattle.std.proofs.Common.{Option}
-use Rattle.std.specs.Option.{MatchOption, unwrap_or}
-use Rattle.std.specs.List.{AllWithin, HoldsAt}
-use Rattle.std.proofs.lemmas.Iterator.{index_from_first}
 use Rattle.scan.specs.Bytes.{begins, same, holds, some, every, run, span}
 
 eqb-comm : (a b : ℕ) → eqb a b ≡ eqb b a
@@ -78,6 +74,15 @@ module _ (p : ℕ → Bool) (s : List ℕ) (i : ℕ) where
   pub run_end : length s ≤ i → run p (drop i s) ≡ 0
   unfolding run
   run_end h = rw (drop_of_length-le s h)
+
+-- a run that goes on from a place to the end, where that is not before the place
+pub run_whole : (p : ℕ → Bool) (s : List ℕ) (at i : ℕ) → length s ≤ i → (at ≤ length s → i ≤ length s) → i + run p (drop i s) ≡ at + run p (drop at s) →
+    max at (length s) ≡ at + run p (drop at s)
+run_whole p s at i h f e = go (ltb (length s) at) refl
+  where
+    go : (x : Bool) → ltb (length s) at ≡ x → max at (length s) ≡ at + run p (drop at s)
+    go true q = omega (arith, ltb-true (length s) at q, run_end p s at (omega (arith, ltb-true (length s) at q)))
+    go false q = omega (arith, ltb-false (length s) at q, run_end p s i h, f (omega (arith, ltb-false (length s) at q)), e)
 
 -- a run ends in the text
 pub run-le : (p : ℕ → Bool) (s : List ℕ) → run p s ≤ length s
@@ -220,13 +225,6 @@ same-pointwise (a ∷ s) (b ∷ t) = go (eqb a b) (same-pointwise s t)
     go : (x : Bool) → same s t ≡ pointwise eqb s t → elim x as (λ _. Bool) [ true ↦ same s t | false ↦ false ] ≡ (x && pointwise eqb s t)
     go true e = e
     go false e = refl
-
--- a run goes up to the first byte that is not of its kind
-pub run-index : (p : ℕ → Bool) (s : List ℕ) (r : Option ℕ) →
-    MatchOption r (AllWithin (λ b. p b ≡ true) s 0 (length s)) (λ i. (i < length s) × HoldsAt (λ b. p b ≡ false) s i × AllWithin (λ b. p b ≡ true) s 0 i) →
-    run p s ≡ unwrap_or r (length s)
-unfolding run
-run-index p s r = index_from_first (run p) (λ b. p b ≡ false) (λ b. p b ≡ true) refl (λ x xs e. rw (e, run)) (λ x xs e. rw (e, run, add-one)) s r
 
 -- every and some are the library's words
 pub every_all : {A : Type 0} (p : A → Bool) (xs : List A) → every p xs ≡ list_all p xs

@@ -63,6 +63,10 @@ pub fn end_of<F: Fn(u8) -> bool>(s: &[u8], at: usize, takes: F) -> usize
     requires { F.IsAlwaysCallable takes }
     ensures { EndsRun (F.post takes) s.now at result }
 {
-    let rest = span(s, at, s.len());
-    at + rest.iter().position(|b| !takes(*b)).unwrap_or(rest.len())
+    for i in at..s.len() {
+        if !takes(s[i]) {
+            return i;
+        }
+    }
+    at.max(s.len())
 }
