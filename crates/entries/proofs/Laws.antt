@@ -3,7 +3,6 @@ use Rattle.std.proofs.Common.{Ok, Err}
 use Prim.Native.Nat.{ℕ, zero, suc, ◌+◌, ◌*◌, ◌-◌, ◌≤◌, ◌<◌, min}
 use mathlib.Core.Path.{◌≡◌, refl, sym, ap, ap₂, ◌∙◌}
 use mathlib.Core.List.{List, [], ◌∷◌, ◌++◌, map, append_assoc}
-use mathlib.Core.Bool.{true, false}
 use lib.ListN.{length, get_or, drop, length-append, length-map, get_or-append}
 use lib.Seq.{paste, take-length, take-append_seam, drop-append-add, drop-drop, drop-append-le, drop_at, get_or-append-add}
 use native.Mathlib.Nat.{min-eq_right, min-le_left, min-le_right}

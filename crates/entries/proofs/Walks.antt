@@ -1,5 +1,5 @@
 -- A walk that fills a table with the records of a text, one by one, and that it fills it as reading shall.
-use Rattle.std.proofs.Common.{Option, Some, None, Result, Ok, Err}
+use Rattle.std.proofs.Common.{Some, None, Result, Ok, Err}
 use Prim.Native.Nat.{ℕ, ◌+◌, ◌≤◌, ◌<◌}
 use mathlib.Core.Path.{◌≡◌, refl, sym, ap, ◌∙◌}
 use mathlib.Core.List.{List, [], ◌∷◌, ◌++◌, map, map-append, append_assoc, append-nil}
@@ -9,7 +9,7 @@ use native.Mathlib.Numerals.{add-one}
 use native.Mathlib.Omega.{arith}
 use Rattle.scan.proofs.Laws.{no_length}
 use Rattle.entries.specs.Entries.{Entry, Accepted, entry_of, numbers_of, policy_in}
-use Rattle.entries.specs.Filled.{Filled, count_of, told_by, written}
+use Rattle.entries.specs.Filled.{Filled, count_of, told_by}
 use Rattle.entries.specs.Ahead.{Judged, cursor_at, one_of, policy_ahead, rest_from}
 use Rattle.entries.specs.declared.Cursor.{Cursor}
 use Rattle.entries.specs.declared.Next.{Next}
@@ -83,10 +83,10 @@ module _ (text head : List ℕ) (table : List Record) (n : ℕ) (head' : List �
   counted-ahead i h = omega (arith, ahead text head (length table) n head' j)
 
   -- after as many steps as are counted the table is filled
-  pub filled : (table' : List Record) (c : Cursor) → Walked text head' table' n c → drop n table' ≡ drop n table →
+  filled-accepted : (table' : List Record) (c : Cursor) → Walked text head' table' n c → drop n table' ≡ drop n table →
       length table' ≡ length table → Filled text head table (Ok n) head' table'
   unfolding policy_in policy_ahead told_by
-  filled table' c w d l =
+  filled-accepted table' c w d l =
       record {
         told = ap Accepted same ∙ j.told;
         counted = j.counted ∙ ap numbers_of (sym same);
@@ -100,3 +100,10 @@ module _ (text head : List ℕ) (table : List Record) (n : ℕ) (head' : List �
       same =
           let m : n ≡ length (whole text head') = ahead text head (length table) n head' j in
           rw (← j.count, walked_all text head' table' n c w m)
+
+-- the same of every text, accepted or not
+pub filled : (text head : List ℕ) (table : List Record) (r : Result ℕ Unread) (head' : List ℕ) → Judged text head (length table) r head' →
+    (table' : List Record) (c : Cursor) → Walked text head' table' (count_of r) c → drop (count_of r) table' ≡ drop (count_of r) table →
+    length table' ≡ length table → Filled text head table r head' table'
+filled text head table (Ok n) head' j table' c w d l = filled-accepted text head table n head' j table' c w d l
+filled text head table (Err e) head' j table' c w d l = rw d (filled-not text head table e head' j)

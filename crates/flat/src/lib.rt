@@ -210,10 +210,9 @@ pub fn read(text: &[u8], memory: &mut [usize]) -> Result<usize, Unread>
     let mut at = start(memory);
     for i in 0..n {
         // there is one: as many are to come as were counted
-        if let Some(one) = next_record(text, memory, at) {
-            store(memory, HEAD + WORDS * i, one.record);
-            at = one.next;
-        }
+        let one = next_record(text, memory, at).unwrap();
+        store(memory, HEAD + WORDS * i, one.record);
+        at = one.next;
     }
     Ok(n)
 }

@@ -40,4 +40,4 @@ module _ (s h : List ℕ) (ys : List Record) (n : ℕ) (h' : List ℕ) (j : Judg
   -- after as many as are counted
   pub filling-all : i ≡ n → Filled s h ys (Ok n) h' es
   filling-all e =
-      filled s h ys n h' j es c (subst (λ (k : ℕ). Walked s h' es k c) e f.walked) (subst (λ (k : ℕ). drop k es ≡ drop k ys) e f.behind) f.records
+      filled s h ys (Ok n) h' j es c (subst (λ (k : ℕ). Walked s h' es k c) e f.walked) (subst (λ (k : ℕ). drop k es ≡ drop k ys) e f.behind) f.records

@@ -21,10 +21,9 @@ pub fn read(table: &mut [Record], head: &mut [usize], text: &[u8]) -> Result<usi
     let mut at = start(head);
     for i in 0..n {
         // there is one: as many are to come as were counted
-        if let Some(one) = next_record(text, head, at) {
-            table[i] = one.record;
-            at = one.next;
-        }
+        let one = next_record(text, head, at).unwrap();
+        table[i] = one.record;
+        at = one.next;
     }
     Ok(n)
 }

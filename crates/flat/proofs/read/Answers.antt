@@ -1,4 +1,6 @@
-use Rattle.std.proofs.Common.{Result, Err}
+use Rattle.std.proofs.Common.{Option, Some, None, Result, Err}
+use Rattle.std.specs.Option.{IsSome}
+use Rattle.entries.specs.declared.Next.{Next}
 use Prim.Native.Nat.{ℕ, ◌+◌, ◌*◌, ◌≤◌}
 use Rattle.entries.specs.Ahead.{Judged, one_of, rest_from}
 use Rattle.entries.specs.declared.Unread.{Unread}
@@ -9,10 +11,9 @@ use Rattle.flat.proofs.Walk.{records-room}
 use borrow.Author.Rules.{rules}
 use lib.ListN.{length}
 use mathlib.Core.List.{List}
-use mathlib.Core.Path.{◌≡◌, ap, ◌∙◌}
+use mathlib.Core.Path.{◌≡◌, refl, ap, ◌∙◌}
 use native.Mathlib.Omega.{arith}
 use Rattle.flat.proofs.read.Goals as goal
-use Rattle.flat.proofs.read.Goals.{in-Some, in_default}
 
 filled-same : (s m m' : List ℕ) (rooms : ℕ) (e : Unread) → Judged s m rooms (Err e) m' → rooms ≡ room_in (length m) → (r : Result ℕ Unread) → r ≡ Err e → FilledIn s m r m'
 filled-same s m m' rooms e j room r q = rw q (filled-not s m m' rooms e j room)
@@ -26,17 +27,20 @@ overflow_mul-i c = omega (arith, records-room (length c.args.memory.now) (room_i
 pub loop-i-init : goal.loop-i-init
 loop-i-init c = rw c.start-at.ensures (filling-start c.args.text.now c.judge.new.head)
 
+pub unwrap-one-requires : goal.unwrap-one-requires
+unwrap-one-requires c = go c.next_record.result refl
+  where
+    go : (r : Option Next) → c.next_record.result ≡ r → IsSome r
+    go (Some v) e = refl
+    go None e =
+        absurd (filling-one c.args.text.now c.args.memory.now c.judge.new.head c.loop-i.memory c.room_in-rooms.result c.in_ok-n.n c.loop-i.i c.loop-i.at c.in_ok-n.ensures c.loop-i.invariant (omega arith)
+        (c.next_record.ensures ∙ ap (one_of c.args.text.now (rest_from c.args.text.now c.loop-i.memory)) e))
+
 pub loop-i-preserved : goal.loop-i-preserved
 loop-i-preserved c =
     let size : length c.judge.new.head ≡ length c.args.memory.now = search rules in
     let fits : 1256 + 12 * c.loop-i.i + 12 ≤ length c.judge.new.head = omega (arith, size, records-room (length c.args.memory.now) (room_in (length c.args.memory.now)) c.loop-i.i (omega arith) (omega (arith, c.room_in-rooms.ensures, c.in_ok-n.ensures.fits))) in
-    elim c.match-next_record.branch [
-      | in-Some w ↦
-          rw (w.memory-is, w.at-is) (filling-next c.args.text.now c.judge.new.head c.loop-i.memory c.loop-i.i c.loop-i.at c.loop-i.invariant w.store.new.memory w.in-Some.one fits w.in-Some.ensures w.store.ensures.pasted w.store.ensures.back)
-      | in_default w ↦
-          absurd (filling-one c.args.text.now c.args.memory.now c.judge.new.head c.loop-i.memory c.room_in-rooms.result c.in_ok-n.n c.loop-i.i c.loop-i.at c.in_ok-n.ensures c.loop-i.invariant (omega arith)
-          (c.next_record.ensures ∙ ap (one_of c.args.text.now (rest_from c.args.text.now c.loop-i.memory)) w.in_default.is))
-    ]
+    filling-next c.args.text.now c.judge.new.head c.loop-i.memory c.loop-i.i c.loop-i.at c.loop-i.invariant c.store.new.memory c.unwrap-one.result fits (c.next_record.ensures ∙ ap (one_of c.args.text.now (rest_from c.args.text.now c.loop-i.memory)) c.unwrap-one.ensures) c.store.ensures.pasted c.store.ensures.back
 
 pub returns : goal.returns
 returns c =

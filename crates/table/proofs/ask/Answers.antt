@@ -1,13 +1,12 @@
 use Prim.Native.Nat.{◌+◌}
 use native.Mathlib.Omega.{arith}
 use mathlib.Core.Path.{◌≡◌, sym, ap, ◌∙◌}
-use mathlib.Core.List.{List, map}
+use mathlib.Core.List.{map}
 use lib.ListN.{length, drop, take}
 use lib.Seq.{length-take-le}
 use Rattle.pattern.specs.Table.{env}
-use Rattle.findings.specs.Weighed.{Weighed, nothing, seen_findings}
+use Rattle.findings.specs.Weighed.{Weighed, seen_findings}
 use Rattle.entries.specs.Entries.{entry_of}
-use Rattle.entries.specs.declared.Record.{Record}
 use Rattle.asking.specs.Steps.{concluded, gathered_in}
 use Rattle.table.proofs.Laws.{asked_by, count-within, gather-end, gather-in, gather-out}
 use Rattle.table.proofs.Rows.{no_record}
