@@ -2,8 +2,10 @@
 
 use super::run::{command, ran, run, run_with_input, Folder, SAMPLES};
 use std::fs::OpenOptions;
-use std::io::Read;
+use std::io::{Read, Write};
 use std::process::Stdio;
+use std::thread;
+use std::time::Duration;
 
 fn sample(name: &str) -> String {
     format!("{SAMPLES}/{name}")
@@ -267,8 +269,12 @@ fn a_closed_pipe_is_3() {
         // Its reader ends before the command is started.
         let mut reader = std::process::Command::new("true");
         let mut reader = reader.stdin(Stdio::piped()).spawn().expect("true");
-        let pipe = reader.stdin.take().expect("a pipe");
+        let mut pipe = reader.stdin.take().expect("a pipe");
         reader.wait().expect("it ends");
+        // A command that another test is starting may hold its end for a moment.
+        while pipe.write_all(b" ").is_ok() {
+            thread::sleep(Duration::from_millis(1));
+        }
         let mut call = command(words);
         call.stdout(pipe).stderr(Stdio::piped());
         let child = call.spawn().expect("the command starts");
