@@ -1,17 +1,17 @@
 -- What the definition of blanks and comments says at a place of a text.
 use Rattle.std.specs.Prelude.{if◌then◌else◌}
 use Prim.Native.Nat.{ℕ, zero, suc, ◌+◌, ◌≤◌, ◌<◌, ◌-◌}
-use mathlib.Core.Path.{◌≡◌, refl, sym, ap, ◌∙◌}
+use mathlib.Core.Path.{◌≡◌, refl, ap}
 use mathlib.Core.List.{List, [], ◌∷◌}
 use mathlib.Core.Bool.{Bool, true, false, not, ◌&&◌}
-use lib.ListN.{length, get_or, take, drop, length-drop, length-take}
+use lib.ListN.{length, get_or, take, drop, drop_of_length-le, length-drop, length-take}
 use lib.Seq.{drop-cons, drop-drop}
 use lib.Dec.{eqb}
 use native.Mathlib.Numerals.{add-one}
 use native.Mathlib.Omega.{arith}
-use borrow.Author.Tests.{eqb-true}
-use Rattle.scan.specs.Bytes.{begins, run}
-use Rattle.scan.proofs.Laws.{begins-at, begins-lt, same-eq, run-le}
+use borrow.Author.Tests.{ne_eqb}
+use Rattle.scan.specs.Bytes.{run}
+use Rattle.scan.proofs.Laws.{same-eq, run-le}
 use Rattle.blanks.specs.Blanks.{blank, hash, includes, in_comment, skip, standing, stands_at}
 
 -- bytes that are known to be blanks and comments, and then what follows them
@@ -21,59 +21,33 @@ skip-known zero s h = omega arith
 skip-known (suc k) [] h = absurd (omega arith)
 skip-known (suc k) (b ∷ s) h = omega (arith, skip-known k s (omega arith))
 
--- the blanks that a text begins with, and what follows them
-skip-run : (s : List ℕ) → skip 0 s ≡ run blank s + skip 0 (drop (run blank s) s)
-unfolding skip run
-skip-run [] = refl
-skip-run (b ∷ s) = go (blank b) refl (skip-run s)
-  where
-    go : (k : Bool) → blank b ≡ k → skip 0 s ≡ run blank s + skip 0 (drop (run blank s) s) →
-        ◌≡◌ {A = ℕ}
-        (if k then suc (skip 0 s) else if eqb b hash && not (includes (b ∷ s)) then suc (skip (run in_comment s) s) else 0)
-        (elim k as (λ _. ℕ) [ true ↦ suc (run blank s) | false ↦ 0 ] + skip 0 (drop (elim k as (λ _. ℕ) [ true ↦ suc (run blank s) | false ↦ 0 ]) (b ∷ s)))
-    go true p e = omega arith
-    go false p e = rw (p, skip) (omega arith)
+-- at a place: a blank, another byte, #include, a comment, the end
+module _ (s : List ℕ) (i : ℕ) where
+  pub skip-blank : i < length s → blank (get_or s i 0) ≡ true → skip 0 (drop i s) ≡ suc (skip 0 (drop (i + 1) s))
+  unfolding skip
+  skip-blank h e = rw (add-one, drop-cons s i 0, e, skip)
 
-run-over : (p : ℕ → Bool) (s : List ℕ) → run p (drop (run p s) s) ≡ 0
-unfolding run
-run-over p [] = refl
-run-over p (b ∷ s) = go (p b) refl (run-over p s)
-  where
-    go : (k : Bool) → p b ≡ k → run p (drop (run p s) s) ≡ 0 → run p (drop (elim k as (λ _. ℕ) [ true ↦ suc (run p s) | false ↦ 0 ]) (b ∷ s)) ≡ 0
-    go true q e = e
-    go false q e = rw (q, run)
+  pub skip-other : i < length s → blank (get_or s i 0) ≡ false → (get_or s i 0 ≡ hash → ⊥) → skip 0 (drop i s) ≡ 0
+  unfolding skip
+  skip-other h k n = rw (drop-cons s i 0, k, ne_eqb _ _ n, skip)
 
--- behind the blanks at a place
-pub after-blanks : (s : List ℕ) (i e : ℕ) → e ≡ i + run blank (drop i s) → (e + skip 0 (drop e s) ≡ i + skip 0 (drop i s)) × (run blank (drop e s) ≡ 0)
-after-blanks s i e q =
-    let r : ℕ = run blank (drop i s) in
-    let k : skip 0 (drop i s) ≡ r + skip 0 (drop (i + r) s) = rw drop-drop at (skip-run (drop i s)) in
-    let n : run blank (drop (i + r) s) ≡ 0 = rw drop-drop at (run-over blank (drop i s)) in
-    rw q (omega arith, n)
+  pub skip-include : i < length s → get_or s i 0 ≡ hash → includes (drop i s) ≡ true → skip 0 (drop i s) ≡ 0
+  unfolding skip
+  skip-include h n = rw (drop-cons s i 0, n) λ e. rw (e, skip)
 
--- a comment there
-pub skip-hash : (s : List ℕ) (i : ℕ) → begins hash (drop i s) ≡ true → includes (drop i s) ≡ false → (e : ℕ) → e ≡ i + 1 + run in_comment (drop (i + 1) s) →
-    i + skip 0 (drop i s) ≡ e + skip 0 (drop e s)
-unfolding skip
-skip-hash s i t =
-    let h : i < length s = begins-lt hash s i t in
-    let n : get_or s i 0 ≡ hash = eqb-true (get_or s i 0) hash (sym (begins-at hash s i h) ∙ t) in
-    rw (drop-cons s i 0, n) λ f e q.
-    let r : ℕ = run in_comment (drop (suc i) s) in
-    let q' : e ≡ suc i + r = rw add-one at q in
-    let h : skip 0 (hash ∷ drop (suc i) s) ≡ suc (skip r (drop (suc i) s)) = rw (f, skip) in
-    let k : skip r (drop (suc i) s) ≡ r + skip 0 (drop (suc i + r) s) = rw drop-drop at (skip-known r (drop (suc i) s) (run-le in_comment (drop (suc i) s))) in
-    rw q' (omega arith)
+  pub skip-hash : i < length s → get_or s i 0 ≡ hash → includes (drop i s) ≡ false → (e : ℕ) → e ≡ i + 1 + run in_comment (drop (i + 1) s) →
+      i + skip 0 (drop i s) ≡ e + skip 0 (drop e s)
+  unfolding skip
+  skip-hash h n = rw (drop-cons s i 0, n) λ f e q.
+      let r : ℕ = run in_comment (drop (suc i) s) in
+      let q' : e ≡ suc i + r = rw add-one at q in
+      let h : skip 0 (hash ∷ drop (suc i) s) ≡ suc (skip r (drop (suc i) s)) = rw (f, skip) in
+      let k : skip r (drop (suc i) s) ≡ r + skip 0 (drop (suc i + r) s) = rw drop-drop at (skip-known r (drop (suc i) s) (run-le in_comment (drop (suc i) s))) in
+      rw q' (omega arith)
 
--- what is neither
-pub skip-none : (s : List ℕ) → run blank s ≡ 0 → (begins hash s && not (includes s)) ≡ false → skip 0 s ≡ 0
-unfolding skip run
-skip-none [] z e = refl
-skip-none (b ∷ s) z e = go (blank b) (eqb b hash && not (includes (b ∷ s))) z e
-  where
-    go : (k h : Bool) → elim k as (λ _. ℕ) [ true ↦ suc (run blank s) | false ↦ 0 ] ≡ 0 → h ≡ false → (if k then suc (skip 0 s) else if h then suc (skip (run in_comment s) s) else 0) ≡ 0
-    go true h z e = absurd (omega arith)
-    go false h z e = rw e
+  pub skip-end : length s ≤ i → skip 0 (drop i s) ≡ 0
+  unfolding skip
+  skip-end h = rw (drop_of_length-le s h)
 
 -- blanks and comments are inside the text
 skip-le : (k : ℕ) (s : List ℕ) → skip k s ≤ length s

@@ -34,11 +34,22 @@ fn comment_end(text: &[u8], at: usize) -> usize
 pub fn standing_at(text: &[u8], at: Place) -> Place
     ensures { result.0 ≡ standing text.now at.0 }
 {
-    let mut place = scan::end_of(text, at.0, is_blank);
-    while scan::begins_at(text, place, b'#') && !is_include(text, place) {
-        place = scan::end_of(text, comment_end(text, place + 1), is_blank);
+    let mut i = at.0;
+    while i < text.len() {
+        let b = text[i];
+        if is_blank(b) {
+            i += 1;
+        } else {
+            if b != b'#' {
+                return Place(i);
+            }
+            if is_include(text, i) {
+                return Place(i);
+            }
+            i = comment_end(text, i + 1);
+        }
     }
-    Place(place)
+    Place(i)
 }
 
 // Whether what stands next begins with the bytes of a word.
